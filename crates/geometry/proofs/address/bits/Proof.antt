@@ -1,0 +1,26 @@
+use Prim.Native.Nat.{_-_}
+use native.Mathlib.Omega.{arith}
+use lib.Count.{leading-le}
+use Rattle.geometry.specs.Shape.{adusPerBlock}
+use Rattle.geometry.proofs.Laws.Address.{bits-counted}
+use Rattle.geometry.proofs.Laws.Shape.{in-range, limits}
+use Rattle.geometry.proofs.address.bits.Statement.{statement}
+use Rattle.geometry.proofs.address.bits.Tie as tie
+use Rattle.geometry.proofs.address.bits.Reads as reads
+use Rattle.geometry.proofs.address.bits.Lts as lts
+use Rattle.geometry.proofs.shape.block_adus.Reads as block-adus-reads
+
+block-adus-requires : tie.Need-block-adus-requires
+block-adus-requires c κs = in-range (c .args .config) (c .pre)
+
+sub-result : tie.Need-sub-result
+sub-result c = let z = c .before .before in rw (c .before .block-adus .ensures) (omega (arith, limits (z .args .config) (z .pre) .adus .least))
+
+sub-result-2 : tie.Need-sub-result-2
+sub-result-2 c = leading-le 64 (c .before .block-adus .result .0 - 1)
+
+returns : tie.Need-returns
+returns c = let z = c .before .before in rw (c .before .block-adus .ensures) (bits-counted (z .args .config) (limits (z .args .config) (z .pre)))
+
+pub bits-spec : {M : Type 1} → statement M
+bits-spec = tie.close (tie.spec block-adus-requires sub-result sub-result-2 returns)

@@ -1,0 +1,32 @@
+use mathlib.Core.Path.{refl}
+use Rattle.geometry.specs.Address.{elementsOf}
+use Rattle.geometry.proofs.Laws.Shape.{limits}
+use Rattle.geometry.proofs.address.elements_of.Statement.{statement}
+use Rattle.geometry.proofs.address.elements_of.Tie as tie
+use Rattle.geometry.proofs.address.elements_of.Reads as reads
+use Rattle.geometry.proofs.address.elements_of.Lts as lts
+
+div-plane : tie.Need-div-plane
+div-plane c = let z = c .before .before in limits (z .args .config) (z .pre) .ranges .adus .least
+
+div-die : tie.Need-div-die
+div-die c = let z = c .before .before .before in limits (z .args .config) (z .pre) .ranges .planes .least
+
+div-t5 : tie.Need-div-t5
+div-t5 c = let z = c .before .before .before .before in limits (z .args .config) (z .pre) .ranges .dies .least
+
+rem-t6 : tie.Need-rem-t6
+rem-t6 c = let z = c .before .before .before .before .before in limits (z .args .config) (z .pre) .ranges .dies .least
+
+rem-t7 : tie.Need-rem-t7
+rem-t7 c = let z = c .before .before .before .before .before .before in limits (z .args .config) (z .pre) .ranges .planes .least
+
+rem-t8 : tie.Need-rem-t8
+rem-t8 c = let z = c .before .before .before .before .before .before .before .before in limits (z .args .config) (z .pre) .ranges .adus .least
+
+returns : tie.Need-returns
+unfolding elementsOf
+returns c = refl
+
+pub elements-of-spec : {M : Type 1} → statement M
+elements-of-spec = tie.close (tie.spec div-plane div-die div-t5 rem-t6 rem-t7 rem-t8 returns)
