@@ -1,6 +1,6 @@
 -- What making a flash address and taking it apart answer: by value, and into the byte buffer that the C host lends.
 use Prim.Native.Nat.{ℕ}
-use mathlib.Core.Bool.{Bool, _&&_, cond}
+use mathlib.Core.Bool.{_&&_, cond}
 use mathlib.Core.List.{List, [], _∷_, _++_}
 use lib.Dec.{eqb, leb}
 use lib.ListN.{length, drop}
@@ -63,10 +63,6 @@ numberOf DomainId = 4
 numberOf Range = 6
 numberOf Output = 7
 
-abbrev pub verdictNumber : Verdict → ℕ
-verdictNumber Pass = 0
-verdictNumber (No r) = numberOf r
-
 abbrev pub created : Created → Outcome
 created (made.Word word) = success (word ∷ [])
 created (made.Refused r) = refusal (numberOf r)
@@ -105,3 +101,8 @@ configOf g d l k s n t = record { pages = g; dies = d; planes = l; adus = k; blo
 
 abbrev pub elementsGiven : ℕ → ℕ → ℕ → ℕ → Elements
 elementsGiven g d l k = record { page = g; die = d; plane = l; adu = k }
+
+-- What the crate's own functions hand on: 0 where no question was answered no.
+abbrev pub verdictNumber : Verdict → ℕ
+verdictNumber Pass = 0
+verdictNumber (No r) = numberOf r

@@ -32,13 +32,9 @@ eachInRange c =
 unfoldable pub planesPerBlock : Config → Planes
 planesPerBlock c = planes (c .pages * c .dies * c .planes)
 
--- Planes as ADUs: each has K.
-unfoldable pub adusOf : Config → Planes → Adus
-adusOf c n = adus (n .0 * c .adus)
-
 -- C = W × K, the ADUs of a block
 unfoldable pub adusPerBlock : Config → Adus
-adusPerBlock c = adusOf c (planesPerBlock c)
+adusPerBlock c = adus (planesPerBlock c .0 * c .adus)
 
 -- Each number in its range, and C at most 1,048,576.
 unfoldable pub withinLimits : Config → Bool

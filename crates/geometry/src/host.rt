@@ -8,11 +8,11 @@ use crate::address::create_flash_address;
 use crate::address::parse_flash_address;
 use crate::bytes::put_numbers;
 use crate::shape::Config;
-ghost use mathlib.Core.List.{[], _∷_};
+ghost use mathlib.Core.List.{[]};
 ghost use mathlib.Core.Path.{_≡_};
 ghost use Prim.Native.Nat.{_*_, _≤_};
 ghost use lib.ListN.{length};
-ghost use Rattle.geometry.specs.Answers.{configOf, createInto, elementsGiven, filled, parseInto, returned, sevenNumbers};
+ghost use Rattle.geometry.specs.Answers.{configOf, createInto, elementsGiven, filled, parseInto, returned};
 ghost use Rattle.geometry.specs.Bytes.{numbers};
 
 // Question 7, and the numbers at the start of the buffer.

@@ -2,7 +2,7 @@
 ghost use mathlib.Core.Bool.{true};
 ghost use mathlib.Core.Path.{_≡_};
 ghost use Prim.Native.Nat.{_+_, _-_, _/_, _<_, min};
-ghost use Rattle.geometry.specs.Shape.{adusOf, adusPerBlock, between, counted, eachInRange};
+ghost use Rattle.geometry.specs.Shape.{adusPerBlock, between, counted, eachInRange};
 ghost use Rattle.geometry.specs.Shape.{planesPerBlock, storeLength, stretchStart, wholeBlocks, withinLimits};
 
 // The seven numbers of a drive, in document 01's order, with its letters.

@@ -1,18 +1,16 @@
 -- b is the least number with C ≤ 2 ^ b; an offset and its elements, and a word and its fields, give back each other.
 use Prim.Native.Nat.{ℕ, zero, suc, _+_, _-_, _*_, _/_, _%_, _^_, _≤_, _<_}
-use mathlib.Core.Bool.{Bool, true, false, _&&_}
-use mathlib.Core.Path.{_≡_, refl, sym, ap, _∙_, subst}
-use native.Mathlib.Nat.{le-trans, le-antisymm, lt-of-not-le, not-le-of-lt, lt-of-lt-of-le, div-lt-iff-lt-mul, div-add-mod', mod-lt, add-assoc, pow-suc}
-use native.Mathlib.Nat.{mul-assoc, mul-le-mul-right}
-use native.Mathlib.Numerals.{add-one}
+use mathlib.Core.Bool.{true, _&&_}
+use mathlib.Core.Path.{_≡_, sym, ap, _∙_, subst}
+use native.Mathlib.Nat.{le-trans, lt-of-not-le, not-le-of-lt, lt-of-lt-of-le, div-lt-iff-lt-mul, div-add-mod', mod-lt, add-assoc, pow-suc}
 use native.Mathlib.Omega.{arith}
 use lib.Arith.{digits-lt, digits-div, digits-mod}
 use lib.Count.{leadingZeros, leading-length}
 use lib.Dec.{leb, ltb}
-use lib.Pow.{high, low, mod-mod-pow, pow-add, pow-mono, pow-lt, split}
+use lib.Pow.{high, low, mod-mod-pow, pow-add, pow-mono, split}
 use borrow.Author.Tests.{leb-true, leb-false, lt-ltb, ltb-true}
 use Rattle.geometry.specs.Address.{areElements, elementsOf, fieldsOf, leastFrom, offsetBits, offsetOf, wordOf}
-use Rattle.geometry.specs.Shape.{adus, adusOf, adusPerBlock, planesPerBlock}
+use Rattle.geometry.specs.Shape.{adus, adusPerBlock, planesPerBlock}
 use Rattle.geometry.specs.declared.address.Elements.{Elements}
 use Rattle.geometry.specs.declared.address.FlashAddress.{FlashAddress}
 use Rattle.geometry.specs.declared.shape.Adus.{Adus}
@@ -109,7 +107,7 @@ pub record Offset (c : Config) (e : Elements) : Type 0 where
   pub adu : offsetOf c e .0 < adusPerBlock c .0
 
 pub offset-in-range : (c : Config) (e : Elements) → InRange c e → Offset c e
-unfolding planesPerBlock adusPerBlock adusOf offsetOf
+unfolding planesPerBlock adusPerBlock offsetOf
 offset-in-range c e r =
     let d = digits-lt (r .page) (r .die) in
     let p = digits-lt d (r .plane) in
@@ -137,7 +135,7 @@ offset-elements c o =
     simp (div-add-mod' (o .0 / c .adus / c .planes) (c .dies), div-add-mod' (o .0 / c .adus) (c .planes), div-add-mod' (o .0) (c .adus))
 
 pub elements-in-block : (c : Config) (o : Adus) → Limits c → o .0 < adusPerBlock c .0 → InRange c (elementsOf c o)
-unfolding elementsOf planesPerBlock adusPerBlock adusOf
+unfolding elementsOf planesPerBlock adusPerBlock
 elements-in-block c o l h =
     let r = l .ranges in record {
       page = div-lt-iff-lt-mul (r .dies .least) .1 (div-lt-iff-lt-mul (r .planes .least) .1 (div-lt-iff-lt-mul (r .adus .least) .1 h));

@@ -1,11 +1,11 @@
 -- Making an address and taking it apart undo each other.
 use Prim.Native.Nat.{ℕ}
-use mathlib.Core.List.{List, [], _∷_}
-use mathlib.Core.Path.{_≡_, refl, sym, ap, _∙_}
+use mathlib.Core.List.{[], _∷_}
+use mathlib.Core.Path.{_≡_, sym, ap, _∙_}
 use native.Mathlib.Omega.{arith}
-use Rattle.geometry.specs.Address.{elementsOf, fieldsOf, offsetBits, offsetOf, wordOf}
-use Rattle.geometry.specs.Answers.{addressOf, addressQuestions, createAnswer, createQuestions, parseAnswer, sevenNumbers}
-use Rattle.geometry.specs.Questions.{Outcome, answered, firstNo, success}
+use Rattle.geometry.specs.Address.{elementsOf, fieldsOf, wordOf}
+use Rattle.geometry.specs.Answers.{addressOf, createAnswer, parseAnswer, sevenNumbers}
+use Rattle.geometry.specs.Questions.{Outcome, success}
 use Rattle.geometry.specs.declared.address.Elements.{Elements}
 use Rattle.geometry.specs.declared.address.FlashAddress.{FlashAddress}
 use Rattle.geometry.specs.declared.shape.Config.{Config}

@@ -1,6 +1,6 @@
 -- What the first no says of the questions and of the answer.
-use Prim.Native.Nat.{ℕ, suc, _<_}
-use mathlib.Core.Bool.{Bool, true, false, false≢true, _&&_}
+use Prim.Native.Nat.{ℕ, _<_}
+use mathlib.Core.Bool.{Bool, true, false, _&&_}
 use mathlib.Core.List.{List, [], _∷_, _++_}
 use mathlib.Core.Path.{_≡_, refl, sym}
 use native.Mathlib.Omega.{arith}
@@ -9,16 +9,11 @@ use borrow.Author.Tests.{eqb-true, ltb-true, ne-eqb}
 use Rattle.geometry.proofs.Laws.Shape.{both, by-test}
 use Rattle.geometry.specs.Questions.{Question, answered, ask, firstNo, refusal, success}
 
--- Without a no, the first question holds and the rest have none; and the other way.
+-- Without a no, the first question holds and the rest have none.
 pub all-yes : (n : ℕ) (b : Bool) (qs : List Question) → 0 < n → firstNo (ask n b ∷ qs) ≡ 0 → (b ≡ true) × (firstNo qs ≡ 0)
 unfolding firstNo
 all-yes n true qs p e = (refl, e)
 all-yes n false qs p e = absurd (omega arith)
-
-pub yes-all : (n : ℕ) (b : Bool) (qs : List Question) → b ≡ true → firstNo qs ≡ 0 → firstNo (ask n b ∷ qs) ≡ 0
-unfolding firstNo
-yes-all n true qs p e = e
-yes-all n false qs p e = absurd (false≢true p)
 
 -- Every number of a list is positive, so that 0 is no question's.
 unfoldable pub positive : List Question → Bool

@@ -1,13 +1,13 @@
 -- What the limits say of each number and product, and that rounding up gives the least number of blocks.
-use Prim.Native.Nat.{ℕ, suc, _+_, _-_, _*_, _/_, _%_, _≤_, _<_}
+use Prim.Native.Nat.{ℕ, _+_, _-_, _*_, _/_, _%_, _≤_, _<_}
 use mathlib.Core.Bool.{Bool, true, false, _&&_, and-eq-true-iff}
-use mathlib.Core.Path.{_≡_, refl, sym, ap, _∙_}
+use mathlib.Core.Path.{_≡_, refl}
 use native.Mathlib.Nat.{div-lt-iff-lt-mul, le-of-suc-le-suc, le-trans, lt-div-mul-add, mul-le-mul-right, suc-mul}
 use native.Mathlib.Nat.{mul-le-mul, mul-le-mul-left, div-eq-of-lt-le, div-add-mod', mod-lt, add-mul}
 use native.Mathlib.Omega.{arith}
 use lib.Dec.{leb}
 use borrow.Author.Tests.{leb-true}
-use Rattle.geometry.specs.Shape.{adusOf, adusPerBlock, between, eachInRange, planes, planesPerBlock, storeLength, stretchStart, wholeBlocks, withinLimits}
+use Rattle.geometry.specs.Shape.{adusPerBlock, between, eachInRange, planes, planesPerBlock, storeLength, stretchStart, wholeBlocks, withinLimits}
 use Rattle.geometry.specs.declared.shape.Config.{Config}
 use Rattle.geometry.specs.declared.shape.Planes.{Planes}
 
@@ -67,7 +67,7 @@ pub record Products (c : Config) : Type 0 where
   pub adus : Between 128 8589934592 (adusPerBlock c .0)
 
 pub products : (c : Config) → Ranges c → Products c
-unfolding planesPerBlock adusPerBlock adusOf
+unfolding planesPerBlock adusPerBlock
 products c r =
     let most2 = mul-le-mul (r .pages .most) (r .dies .most) in
     let most3 = mul-le-mul most2 (r .planes .most) in

@@ -1,15 +1,9 @@
+-- The buffer that is lent has the length asked for.
 use mathlib.Core.Path.{sym}
 use lib.Seq.{length-take-le}
 use borrow.Author.Needs.{needs}
 use Rattle.cases.proofs.calls.host_made.Statement.{statement}
 use Rattle.cases.proofs.calls.host_made.Tie as tie
-use Rattle.cases.proofs.calls.host_made.Reads as reads
-use Rattle.cases.proofs.calls.host_made.Lts as lts
-use Rattle.cases.proofs.calls.at_most_64.Reads as at-most-64-reads
-use Rattle.cases.proofs.calls.filled.Reads as filled-reads
-use Rattle.cases.proofs.calls.kept_from.Reads as kept-from-reads
-use Rattle.cases.proofs.calls.number_at.Reads as number-at-reads
-use Rattle.geometry.proofs.sbm_create_flash_address.Reads as sbm-create-flash-address-reads
 
 at-most-64-requires : tie.Need-at-most-64-requires
 at-most-64-requires c κs = search needs

@@ -1,10 +1,9 @@
+-- The index stays below 64.
 use Prim.Native.Nat.{_≤_, _-_}
 use native.Mathlib.Omega.{arith}
 use borrow.Author.Needs.{needs}
 use Rattle.cases.proofs.calls.kept_from.Statement.{statement}
 use Rattle.cases.proofs.calls.kept_from.Tie as tie
-use Rattle.cases.proofs.calls.kept_from.Reads as reads
-use Rattle.cases.proofs.calls.kept_from.Lts as lts
 
 abbrev Inv-loop : tie.InvT-loop
 Inv-loop bytes from kept₀ i₀ kept i = i ≤ 64

@@ -1,11 +1,9 @@
+-- The index stays within the eight bytes.
 use Prim.Native.Nat.{_≤_, _-_}
 use native.Mathlib.Omega.{arith}
 use borrow.Author.Needs.{needs}
 use Rattle.cases.proofs.calls.number_at.Statement.{statement}
 use Rattle.cases.proofs.calls.number_at.Tie as tie
-use Rattle.cases.proofs.calls.number_at.Reads as reads
-use Rattle.cases.proofs.calls.number_at.Lts as lts
-use Rattle.cases.proofs.calls.wide.Reads as wide-reads
 
 abbrev Inv-loop : tie.InvT-loop
 Inv-loop bytes at n₀ i₀ n i = i ≤ 8

@@ -1,15 +1,10 @@
+-- Outside the limits the capacity is taken for 0, and question 1 has answered before it matters.
 use Rattle.geometry.specs.Questions.{firstNo}
 use Rattle.geometry.specs.Shape.{withinLimits}
 use Rattle.geometry.proofs.Laws.Shape.{by-test}
 use borrow.Author.Needs.{needs}
 use Rattle.geometry.proofs.address.address_verdict.Statement.{statement}
 use Rattle.geometry.proofs.address.address_verdict.Tie as tie
-use Rattle.geometry.proofs.address.address_verdict.Reads as reads
-use Rattle.geometry.proofs.address.address_verdict.Lts as lts
-use Rattle.geometry.proofs.address.first_no.Reads as first-no-reads
-use Rattle.geometry.proofs.address.is_domain_id.Reads as is-domain-id-reads
-use Rattle.geometry.proofs.shape.adus_per_block.Reads as adus-per-block-reads
-use Rattle.geometry.proofs.shape.within_limits.Reads as within-limits-reads
 
 adus-per-block-requires : tie.Need-adus-per-block-requires
 adus-per-block-requires c κs = search needs

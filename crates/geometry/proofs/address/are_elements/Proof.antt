@@ -1,9 +1,8 @@
+-- The four tests are the definition's.
 use mathlib.Core.Path.{refl}
 use Rattle.geometry.specs.Address.{areElements}
 use Rattle.geometry.proofs.address.are_elements.Statement.{statement}
 use Rattle.geometry.proofs.address.are_elements.Tie as tie
-use Rattle.geometry.proofs.address.are_elements.Reads as reads
-use Rattle.geometry.proofs.address.are_elements.Lts as lts
 
 returns : tie.Need-returns
 unfolding areElements

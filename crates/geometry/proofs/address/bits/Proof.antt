@@ -1,14 +1,11 @@
+-- 64 less the leading zeros of C - 1 are its digits, and b is as many.
 use Prim.Native.Nat.{_-_}
 use native.Mathlib.Omega.{arith}
 use lib.Count.{leading-le}
-use Rattle.geometry.specs.Shape.{adusPerBlock}
 use Rattle.geometry.proofs.Laws.Address.{bits-counted}
 use Rattle.geometry.proofs.Laws.Shape.{in-range, limits}
 use Rattle.geometry.proofs.address.bits.Statement.{statement}
 use Rattle.geometry.proofs.address.bits.Tie as tie
-use Rattle.geometry.proofs.address.bits.Reads as reads
-use Rattle.geometry.proofs.address.bits.Lts as lts
-use Rattle.geometry.proofs.shape.block_adus.Reads as block-adus-reads
 
 block-adus-requires : tie.Need-block-adus-requires
 block-adus-requires c κs = in-range (c .args .config) (c .pre)

@@ -1,6 +1,5 @@
-use mathlib.Core.List.{[], _∷_}
+-- The elements that pass the questions make an offset below C, so the address passes its own.
 use mathlib.Core.Path.{_≡_, sym, ap, _∙_}
-use Rattle.geometry.specs.Address.{wordOf}
 use Rattle.geometry.specs.Answers.{addressOf, createAnswer, createQuestions, verdictNumber}
 use Rattle.geometry.specs.Questions.{firstNo}
 use Rattle.geometry.proofs.Laws.Address.{in-range-elements}
@@ -9,11 +8,6 @@ use Rattle.geometry.proofs.Laws.Questions.{answered-yes}
 use borrow.Author.Needs.{needs}
 use Rattle.geometry.proofs.address.create_flash_address.Statement.{statement}
 use Rattle.geometry.proofs.address.create_flash_address.Tie as tie
-use Rattle.geometry.proofs.address.create_flash_address.Reads as reads
-use Rattle.geometry.proofs.address.create_flash_address.Lts as lts
-use Rattle.geometry.proofs.address.create_verdict.Reads as create-verdict-reads
-use Rattle.geometry.proofs.address.offset_of.Reads as offset-of-reads
-use Rattle.geometry.proofs.address.word_of.Reads as word-of-reads
 
 passed : (c : tie.After-enum-told) → firstNo (createQuestions (c .before .before .before .args .config) (c .before .before .before .args .domain) (c .before .before .before .args .block) (c .before .before .before .args .e)) ≡ 0
 passed c = sym (c .before .before .create-verdict .ensures) ∙ ap verdictNumber (c .enum-told .given .1)

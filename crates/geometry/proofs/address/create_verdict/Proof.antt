@@ -1,12 +1,7 @@
+-- The three answers are the questions'.
 use borrow.Author.Needs.{needs}
 use Rattle.geometry.proofs.address.create_verdict.Statement.{statement}
 use Rattle.geometry.proofs.address.create_verdict.Tie as tie
-use Rattle.geometry.proofs.address.create_verdict.Reads as reads
-use Rattle.geometry.proofs.address.create_verdict.Lts as lts
-use Rattle.geometry.proofs.address.are_elements.Reads as are-elements-reads
-use Rattle.geometry.proofs.address.first_no.Reads as first-no-reads
-use Rattle.geometry.proofs.address.is_domain_id.Reads as is-domain-id-reads
-use Rattle.geometry.proofs.shape.within_limits.Reads as within-limits-reads
 
 are-elements-requires : tie.Need-are-elements-requires
 are-elements-requires c κs = search needs

@@ -1,10 +1,9 @@
+-- No divisor is 0, by the limits.
 use mathlib.Core.Path.{refl}
 use Rattle.geometry.specs.Address.{elementsOf}
 use Rattle.geometry.proofs.Laws.Shape.{limits}
 use Rattle.geometry.proofs.address.elements_of.Statement.{statement}
 use Rattle.geometry.proofs.address.elements_of.Tie as tie
-use Rattle.geometry.proofs.address.elements_of.Reads as reads
-use Rattle.geometry.proofs.address.elements_of.Lts as lts
 
 div-plane : tie.Need-div-plane
 div-plane c = let z = c .before .before in limits (z .args .config) (z .pre) .ranges .adus .least

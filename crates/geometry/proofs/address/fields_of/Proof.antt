@@ -1,12 +1,9 @@
-use mathlib.Core.Path.{refl}
+-- The divisor is a power of two, so not 0.
 use lib.Pow.{pow-pos}
 use Rattle.geometry.specs.Address.{fieldsOf, offsetBits}
 use borrow.Author.Needs.{needs}
 use Rattle.geometry.proofs.address.fields_of.Statement.{statement}
 use Rattle.geometry.proofs.address.fields_of.Tie as tie
-use Rattle.geometry.proofs.address.fields_of.Reads as reads
-use Rattle.geometry.proofs.address.fields_of.Lts as lts
-use Rattle.geometry.proofs.address.span.Reads as span-reads
 
 span-requires : tie.Need-span-requires
 span-requires c κs = search needs

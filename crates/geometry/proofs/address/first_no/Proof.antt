@@ -1,10 +1,8 @@
-use mathlib.Core.Path.{sym, _∙_}
+-- Each return is the first no under the tests that led there.
 use borrow.Author.Tests.{not-true, not-false}
 use Rattle.geometry.specs.Questions.{firstNo}
 use Rattle.geometry.proofs.address.first_no.Statement.{statement}
 use Rattle.geometry.proofs.address.first_no.Tie as tie
-use Rattle.geometry.proofs.address.first_no.Reads as reads
-use Rattle.geometry.proofs.address.first_no.Lts as lts
 
 returns : tie.Need-returns
 unfolding firstNo

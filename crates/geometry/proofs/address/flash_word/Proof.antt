@@ -1,6 +1,5 @@
-use mathlib.Core.List.{[], _∷_}
+-- A pass is no first no, and a no is the first.
 use mathlib.Core.Path.{_≡_, sym, ap, _∙_}
-use Rattle.geometry.specs.Address.{wordOf}
 use Rattle.geometry.specs.Answers.{addressQuestions, verdictNumber, wordAnswer}
 use Rattle.geometry.specs.Questions.{firstNo}
 use Rattle.geometry.proofs.Laws.Answers.{refused}
@@ -8,10 +7,6 @@ use Rattle.geometry.proofs.Laws.Questions.{answered-yes}
 use borrow.Author.Needs.{needs}
 use Rattle.geometry.proofs.address.flash_word.Statement.{statement}
 use Rattle.geometry.proofs.address.flash_word.Tie as tie
-use Rattle.geometry.proofs.address.flash_word.Reads as reads
-use Rattle.geometry.proofs.address.flash_word.Lts as lts
-use Rattle.geometry.proofs.address.address_verdict.Reads as address-verdict-reads
-use Rattle.geometry.proofs.address.word_of.Reads as word-of-reads
 
 passed : (c : tie.After-enum-told) → firstNo (addressQuestions (c .before .before .before .args .config) (c .before .before .before .args .a)) ≡ 0
 passed c = sym (c .before .before .address-verdict .ensures) ∙ ap verdictNumber (c .enum-told .given .1)

@@ -1,11 +1,8 @@
+-- Inside the limits b, outside 0.
 use mathlib.Core.Path.{sym, _∙_}
 use borrow.Author.Needs.{needs}
 use Rattle.geometry.proofs.address.offset_bits.Statement.{statement}
 use Rattle.geometry.proofs.address.offset_bits.Tie as tie
-use Rattle.geometry.proofs.address.offset_bits.Reads as reads
-use Rattle.geometry.proofs.address.offset_bits.Lts as lts
-use Rattle.geometry.proofs.address.bits.Reads as bits-reads
-use Rattle.geometry.proofs.shape.within_limits.Reads as within-limits-reads
 
 within-limits-requires : tie.Need-within-limits-requires
 within-limits-requires c κs = search needs

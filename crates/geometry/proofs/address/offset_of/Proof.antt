@@ -1,3 +1,4 @@
+-- Each product and sum on the way is below the one that the limits bound.
 use mathlib.Core.Path.{refl}
 use native.Mathlib.Omega.{arith}
 use Rattle.geometry.specs.Address.{offsetOf}
@@ -5,8 +6,6 @@ use Rattle.geometry.proofs.Laws.Address.{Offset, elements-in-range, off
 use Rattle.geometry.proofs.Laws.Shape.{Products, limits, products}
 use Rattle.geometry.proofs.address.offset_of.Statement.{statement}
 use Rattle.geometry.proofs.address.offset_of.Tie as tie
-use Rattle.geometry.proofs.address.offset_of.Reads as reads
-use Rattle.geometry.proofs.address.offset_of.Lts as lts
 
 within : (c : tie.Start) → Products (c .args .config)
 within c = products (c .args .config) (limits (c .args .config) (c .pre .0) .ranges)

@@ -1,20 +1,15 @@
+-- Inside the limits the fields are the word's; outside, whatever they are, question 1 answers.
 use mathlib.Core.Bool.{true}
 use Rattle.geometry.specs.Shape.{withinLimits}
-use mathlib.Core.List.{[], _∷_}
 use mathlib.Core.Path.{_≡_, sym, ap, _∙_}
-use Rattle.geometry.specs.Address.{elementsOf, fieldsOf}
-use Rattle.geometry.specs.Answers.{addressQuestions, parseAnswer, sevenNumbers, verdictNumber}
+use Rattle.geometry.specs.Address.{fieldsOf}
+use Rattle.geometry.specs.Answers.{addressQuestions, parseAnswer, verdictNumber}
 use Rattle.geometry.specs.Questions.{firstNo}
 use Rattle.geometry.proofs.Laws.Answers.{addressed, fields-asked, refused}
 use Rattle.geometry.proofs.Laws.Questions.{answered-yes}
 use borrow.Author.Needs.{needs}
 use Rattle.geometry.proofs.address.parse_flash_address.Statement.{statement}
 use Rattle.geometry.proofs.address.parse_flash_address.Tie as tie
-use Rattle.geometry.proofs.address.parse_flash_address.Reads as reads
-use Rattle.geometry.proofs.address.parse_flash_address.Lts as lts
-use Rattle.geometry.proofs.address.address_verdict.Reads as address-verdict-reads
-use Rattle.geometry.proofs.address.elements_of.Reads as elements-of-reads
-use Rattle.geometry.proofs.address.word_fields.Reads as word-fields-reads
 
 first : (c : tie.After-address-verdict) → verdictNumber (c .address-verdict .result) ≡ firstNo (addressQuestions (c .before .before .args .config) (fieldsOf (c .before .before .args .config) (c .before .before .args .word)))
 first c =

@@ -1,3 +1,4 @@
+-- b is at most 20, so the shift loses nothing.
 use mathlib.Core.Path.{_∙_}
 use Prim.Native.Nat.{_^_, _≤_, _+_}
 use native.Mathlib.Nat.{one-mul}
@@ -10,9 +11,6 @@ use Rattle.geometry.proofs.Laws.Shape.{limits}
 use borrow.Author.Needs.{needs}
 use Rattle.geometry.proofs.address.span.Statement.{statement}
 use Rattle.geometry.proofs.address.span.Tie as tie
-use Rattle.geometry.proofs.address.span.Reads as reads
-use Rattle.geometry.proofs.address.span.Lts as lts
-use Rattle.geometry.proofs.address.bits.Reads as bits-reads
 
 bits-requires : tie.Need-bits-requires
 bits-requires c κs = search needs

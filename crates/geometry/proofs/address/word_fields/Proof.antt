@@ -1,11 +1,8 @@
+-- Inside the limits the fields, outside none.
 use mathlib.Core.Path.{sym, _∙_}
 use borrow.Author.Needs.{needs}
 use Rattle.geometry.proofs.address.word_fields.Statement.{statement}
 use Rattle.geometry.proofs.address.word_fields.Tie as tie
-use Rattle.geometry.proofs.address.word_fields.Reads as reads
-use Rattle.geometry.proofs.address.word_fields.Lts as lts
-use Rattle.geometry.proofs.address.fields_of.Reads as fields-of-reads
-use Rattle.geometry.proofs.shape.within_limits.Reads as within-limits-reads
 
 within-limits-requires : tie.Need-within-limits-requires
 within-limits-requires c κs = search needs

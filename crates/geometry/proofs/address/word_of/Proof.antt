@@ -1,3 +1,4 @@
+-- Block and offset have room below bit 48, and the domain ID is at most 16.
 use Prim.Native.Nat.{_+_, _*_, _^_, _<_}
 use native.Mathlib.Omega.{arith}
 use Rattle.geometry.specs.Address.{offsetBits, wordOf}

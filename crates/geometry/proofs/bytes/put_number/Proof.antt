@@ -1,3 +1,4 @@
+-- Eight stores make the eight bytes.
 use lib.ListN.{length-set}
 use native.Mathlib.Omega.{arith}
 use Rattle.geometry.specs.Bytes.{littleEndian}
@@ -5,8 +6,6 @@ use Rattle.geometry.proofs.Laws.Bytes.{eight-stores}
 use borrow.Author.Needs.{needs}
 use Rattle.geometry.proofs.bytes.put_number.Statement.{statement}
 use Rattle.geometry.proofs.bytes.put_number.Tie as tie
-use Rattle.geometry.proofs.bytes.put_number.Reads as reads
-use Rattle.geometry.proofs.bytes.put_number.Lts as lts
 
 cast-out : tie.Need-cast-out
 cast-out c = search needs

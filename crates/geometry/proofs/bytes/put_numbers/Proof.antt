@@ -1,16 +1,13 @@
+-- After i turns the first i numbers stand at the start, and the rest is as it was.
 use Prim.Native.Nat.{_+_, _-_, _*_, _≤_}
-use mathlib.Core.List.{_++_}
-use mathlib.Core.Path.{_≡_, refl, sym, ap, _∙_}
+use mathlib.Core.Path.{_≡_, refl, ap, _∙_}
 use native.Mathlib.Omega.{arith}
-use lib.ListN.{drop, length, take, length-drop, length-take}
+use lib.ListN.{length, length-drop, length-take}
 use lib.Seq.{take-length}
 use Rattle.geometry.specs.Bytes.{numbers}
 use Rattle.geometry.proofs.Laws.Bytes.{filledTo, length-filled, one-more}
 use Rattle.geometry.proofs.bytes.put_numbers.Statement.{statement}
 use Rattle.geometry.proofs.bytes.put_numbers.Tie as tie
-use Rattle.geometry.proofs.bytes.put_numbers.Reads as reads
-use Rattle.geometry.proofs.bytes.put_numbers.Lts as lts
-use Rattle.geometry.proofs.bytes.put_number.Reads as put-number-reads
 
 abbrev Inv-loop : tie.InvT-loop
 Inv-loop out₀ values i₀ i-end out i = (i ≤ length values) × (i-end ≡ length values) × (out ≡ filledTo values i out₀)

@@ -1,3 +1,4 @@
+-- Question 7 alone is asked here.
 use Prim.Native.Nat.{_*_}
 use lib.ListN.{length}
 use borrow.Author.Tests.{le-leb, lt-leb}
@@ -6,10 +7,6 @@ use Rattle.geometry.specs.Questions.{firstNo}
 use borrow.Author.Needs.{needs}
 use Rattle.geometry.proofs.host.fill.Statement.{statement}
 use Rattle.geometry.proofs.host.fill.Tie as tie
-use Rattle.geometry.proofs.host.fill.Reads as reads
-use Rattle.geometry.proofs.host.fill.Lts as lts
-use Rattle.geometry.proofs.address.Refusal.number.Reads as number-reads
-use Rattle.geometry.proofs.bytes.put_numbers.Reads as put-numbers-reads
 
 mul-if1 : tie.Need-mul-if1
 mul-if1 c = search needs

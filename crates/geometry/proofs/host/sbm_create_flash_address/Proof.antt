@@ -1,3 +1,4 @@
+-- The answer by value decides, and question 7 after it.
 use mathlib.Core.Path.{refl, sym, ap, _∙_}
 use Rattle.geometry.specs.Answers.{createAnswer, createInto, created}
 use Rattle.geometry.proofs.Laws.Answers.{filled-no, filled-yes}
@@ -5,11 +6,6 @@ use Rattle.geometry.proofs.Laws.Questions.{positive}
 use borrow.Author.Needs.{needs}
 use Rattle.geometry.proofs.host.sbm_create_flash_address.Statement.{statement}
 use Rattle.geometry.proofs.host.sbm_create_flash_address.Tie as tie
-use Rattle.geometry.proofs.host.sbm_create_flash_address.Reads as reads
-use Rattle.geometry.proofs.host.sbm_create_flash_address.Lts as lts
-use Rattle.geometry.proofs.address.Refusal.number.Reads as number-reads
-use Rattle.geometry.proofs.address.create_flash_address.Reads as create-flash-address-reads
-use Rattle.geometry.proofs.host.fill.Reads as fill-reads
 
 create-flash-address-requires : tie.Need-create-flash-address-requires
 create-flash-address-requires c κs = search needs

@@ -1,3 +1,4 @@
+-- The answer by value decides, and question 7 after it.
 use mathlib.Core.Path.{refl, sym, ap, _∙_}
 use Rattle.geometry.specs.Answers.{parseAnswer, parseInto, parsed}
 use Rattle.geometry.proofs.Laws.Answers.{filled-no, filled-yes}
@@ -5,11 +6,6 @@ use Rattle.geometry.proofs.Laws.Questions.{positive}
 use borrow.Author.Needs.{needs}
 use Rattle.geometry.proofs.host.sbm_parse_flash_address.Statement.{statement}
 use Rattle.geometry.proofs.host.sbm_parse_flash_address.Tie as tie
-use Rattle.geometry.proofs.host.sbm_parse_flash_address.Reads as reads
-use Rattle.geometry.proofs.host.sbm_parse_flash_address.Lts as lts
-use Rattle.geometry.proofs.address.Refusal.number.Reads as number-reads
-use Rattle.geometry.proofs.address.parse_flash_address.Reads as parse-flash-address-reads
-use Rattle.geometry.proofs.host.fill.Reads as fill-reads
 
 parse-flash-address-requires : tie.Need-parse-flash-address-requires
 parse-flash-address-requires c κs = search needs

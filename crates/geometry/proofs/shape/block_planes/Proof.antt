@@ -1,11 +1,10 @@
+-- The ranges keep the products below 2 ^ 64.
 use mathlib.Core.Path.{refl}
 use native.Mathlib.Omega.{arith}
 use Rattle.geometry.specs.Shape.{planesPerBlock}
 use Rattle.geometry.proofs.Laws.Shape.{products, ranges}
 use Rattle.geometry.proofs.shape.block_planes.Statement.{statement}
 use Rattle.geometry.proofs.shape.block_planes.Tie as tie
-use Rattle.geometry.proofs.shape.block_planes.Reads as reads
-use Rattle.geometry.proofs.shape.block_planes.Lts as lts
 
 mul-t2 : tie.Need-mul-t2
 mul-t2 c = let d = c .before .args .config in omega (arith, products d (ranges d (c .before .pre)) .dies)

@@ -1,10 +1,8 @@
+-- The seven tests are the definition's.
 use Rattle.geometry.specs.Shape.{eachInRange}
 use borrow.Author.Needs.{needs}
 use Rattle.geometry.proofs.shape.each_in_range.Statement.{statement}
 use Rattle.geometry.proofs.shape.each_in_range.Tie as tie
-use Rattle.geometry.proofs.shape.each_in_range.Reads as reads
-use Rattle.geometry.proofs.shape.each_in_range.Lts as lts
-use Rattle.geometry.proofs.shape.is_between.Reads as is-between-reads
 
 is-between-requires : tie.Need-is-between-requires
 is-between-requires c κs = search needs

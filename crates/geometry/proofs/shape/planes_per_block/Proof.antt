@@ -1,12 +1,9 @@
+-- Inside the limits W, outside 0.
 use mathlib.Core.Path.{sym, _∙_}
 use Rattle.geometry.proofs.Laws.Shape.{in-range}
 use borrow.Author.Needs.{needs}
 use Rattle.geometry.proofs.shape.planes_per_block.Statement.{statement}
 use Rattle.geometry.proofs.shape.planes_per_block.Tie as tie
-use Rattle.geometry.proofs.shape.planes_per_block.Reads as reads
-use Rattle.geometry.proofs.shape.planes_per_block.Lts as lts
-use Rattle.geometry.proofs.shape.block_planes.Reads as block-planes-reads
-use Rattle.geometry.proofs.shape.within_limits.Reads as within-limits-reads
 
 within-limits-requires : tie.Need-within-limits-requires
 within-limits-requires c κs = search needs

@@ -1,3 +1,4 @@
+-- The store ends where the block after the last would begin.
 use Prim.Native.Nat.{min}
 use mathlib.Core.Path.{_≡_}
 use native.Mathlib.Omega.{arith}
@@ -5,9 +6,6 @@ use Rattle.geometry.specs.Shape.{storeLength, stretchStart}
 use borrow.Author.Needs.{needs}
 use Rattle.geometry.proofs.shape.store_length.Statement.{statement}
 use Rattle.geometry.proofs.shape.store_length.Tie as tie
-use Rattle.geometry.proofs.shape.store_length.Reads as reads
-use Rattle.geometry.proofs.shape.store_length.Lts as lts
-use Rattle.geometry.proofs.shape.stretch_start.Reads as stretch-start-reads
 
 stretch-start-requires : tie.Need-stretch-start-requires
 stretch-start-requires c κs = search needs

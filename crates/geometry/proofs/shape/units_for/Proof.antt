@@ -1,4 +1,5 @@
-use mathlib.Core.Path.{_≡_, sym}
+-- What is left over takes one unit more, and that is at most n.
+use mathlib.Core.Path.{sym}
 use Prim.Native.Nat.{_%_, _<_}
 use native.Mathlib.Omega.{arith}
 use borrow.Author.Needs.{needs}

@@ -1,3 +1,4 @@
+-- W is not 0, by the limits.
 use mathlib.Core.Bool.{true}
 use mathlib.Core.Path.{_≡_, sym, _∙_}
 use native.Mathlib.Omega.{arith}
@@ -6,11 +7,6 @@ use Rattle.geometry.proofs.Laws.Shape.{in-range, limits}
 use borrow.Author.Needs.{needs}
 use Rattle.geometry.proofs.shape.whole_blocks.Statement.{statement}
 use Rattle.geometry.proofs.shape.whole_blocks.Tie as tie
-use Rattle.geometry.proofs.shape.whole_blocks.Reads as reads
-use Rattle.geometry.proofs.shape.whole_blocks.Lts as lts
-use Rattle.geometry.proofs.shape.block_planes.Reads as block-planes-reads
-use Rattle.geometry.proofs.shape.units_for.Reads as units-for-reads
-use Rattle.geometry.proofs.shape.within_limits.Reads as within-limits-reads
 
 within : (c : tie.Then1) → withinLimits (c .before .before .args .config) ≡ true
 within c = sym (c .before .within-limits .ensures) ∙ c .if1 .taken

@@ -1,12 +1,9 @@
+-- The product is only made where each number is in its range.
 use mathlib.Core.Path.{sym, _∙_}
 use Rattle.geometry.specs.Shape.{withinLimits}
 use borrow.Author.Needs.{needs}
 use Rattle.geometry.proofs.shape.within_limits.Statement.{statement}
 use Rattle.geometry.proofs.shape.within_limits.Tie as tie
-use Rattle.geometry.proofs.shape.within_limits.Reads as reads
-use Rattle.geometry.proofs.shape.within_limits.Lts as lts
-use Rattle.geometry.proofs.shape.block_adus.Reads as block-adus-reads
-use Rattle.geometry.proofs.shape.each_in_range.Reads as each-in-range-reads
 
 each-in-range-requires : tie.Need-each-in-range-requires
 each-in-range-requires c κs = search needs
