@@ -45,103 +45,68 @@ pub fn odd() -> Config {
     config(1025, 33, 31, 1, 256, 1, 1)
 }
 
-fn limit(name: &[u8], g: u64, d: u64, l: u64, k: u64, s: u64, n: u64, t: u64, within: bool) {
-    let got = geometry::within_limits(config(g, d, l, k, s, n, t));
+fn limit(name: &[u8], c: Config, within: bool) {
+    let got = geometry::within_limits(c);
     report::begin(got == within, b"limit", name);
     report::number(got as u64);
     report::end();
 }
 
-// Both sides of both ends of each number's range.
+// The smallest configuration with one of its seven numbers, counted from 0, changed.
+fn changed(number: u64, value: u64) -> Config {
+    config(
+        chosen(number == 0, value, 128),
+        chosen(number == 1, value, 1),
+        chosen(number == 2, value, 1),
+        chosen(number == 3, value, 1),
+        chosen(number == 4, value, 1),
+        chosen(number == 5, value, 1),
+        chosen(number == 6, value, 1),
+    )
+}
+
+fn chosen(first: bool, a: u64, b: u64) -> u64 {
+    if first { a } else { b }
+}
+
+// One number at a value, and whether that is within the limits.
+fn at(name: &[u8], number: u64, value: u64, within: bool) {
+    let got = geometry::within_limits(changed(number, value));
+    report::begin(got == within, b"limit", name);
+    report::number(value);
+    report::number(got as u64);
+    report::end();
+}
+
+// Both sides of both ends of a number's range.
+fn ends(name: &[u8], number: u64, below: u64, least: u64, most: u64, above: u64) {
+    at(name, number, below, false);
+    at(name, number, least, true);
+    at(name, number, most, true);
+    at(name, number, above, false);
+}
+
 pub fn limits() {
-    pages();
-    dies();
-    planes();
-    adus();
-    blocks();
-    rated();
-    period();
+    ends(b"G", 0, 127, 128, 8192, 8193);
+    ends(b"D", 1, 0, 1, 64, 65);
+    ends(b"L", 2, 0, 1, 64, 65);
+    ends(b"K", 3, 0, 1, 256, 257);
+    ends(b"S", 4, 0, 1, 256, 257);
+    ends(b"N", 5, 0, 1, 65535, 65536);
+    ends(b"T", 6, 0, 1, 65535, 65536);
     products();
-}
-
-fn pages() {
-    limit(b"G 127", 127, 1, 1, 1, 1, 1, 1, false);
-    limit(b"G 128", 128, 1, 1, 1, 1, 1, 1, true);
-    limit(b"G 8192", 8192, 1, 1, 1, 1, 1, 1, true);
-    limit(b"G 8193", 8193, 1, 1, 1, 1, 1, 1, false);
-}
-
-fn dies() {
-    limit(b"D 0", 128, 0, 1, 1, 1, 1, 1, false);
-    limit(b"D 1", 128, 1, 1, 1, 1, 1, 1, true);
-    limit(b"D 64", 128, 64, 1, 1, 1, 1, 1, true);
-    limit(b"D 65", 128, 65, 1, 1, 1, 1, 1, false);
-}
-
-fn planes() {
-    limit(b"L 0", 128, 1, 0, 1, 1, 1, 1, false);
-    limit(b"L 1", 128, 1, 1, 1, 1, 1, 1, true);
-    limit(b"L 64", 128, 1, 64, 1, 1, 1, 1, true);
-    limit(b"L 65", 128, 1, 65, 1, 1, 1, 1, false);
-}
-
-fn adus() {
-    limit(b"K 0", 128, 1, 1, 0, 1, 1, 1, false);
-    limit(b"K 1", 128, 1, 1, 1, 1, 1, 1, true);
-    limit(b"K 256", 128, 1, 1, 256, 1, 1, 1, true);
-    limit(b"K 257", 128, 1, 1, 257, 1, 1, 1, false);
-}
-
-fn blocks() {
-    limit(b"S 0", 128, 1, 1, 1, 0, 1, 1, false);
-    limit(b"S 1", 128, 1, 1, 1, 1, 1, 1, true);
-    limit(b"S 256", 128, 1, 1, 1, 256, 1, 1, true);
-    limit(b"S 257", 128, 1, 1, 1, 257, 1, 1, false);
-}
-
-fn rated() {
-    limit(b"N 0", 128, 1, 1, 1, 1, 0, 1, false);
-    limit(b"N 1", 128, 1, 1, 1, 1, 1, 1, true);
-    limit(b"N 65535", 128, 1, 1, 1, 1, 65535, 1, true);
-    limit(b"N 65536", 128, 1, 1, 1, 1, 65536, 1, false);
-}
-
-fn period() {
-    limit(b"T 0", 128, 1, 1, 1, 1, 1, 0, false);
-    limit(b"T 1", 128, 1, 1, 1, 1, 1, 1, true);
-    limit(b"T 65535", 128, 1, 1, 1, 1, 1, 65535, true);
-    limit(b"T 65536", 128, 1, 1, 1, 1, 1, 65536, false);
 }
 
 // Both sides of C's limit: of the shapes in range, 1,048,579 is the least C above it. The last but
 // one has products that are 0 in 64 bits, the last the largest numbers that there are.
 fn products() {
-    let most = 0xffff_ffff_ffff_ffff;
-    limit(b"C 1048576", 128, 64, 64, 2, 1, 1, 1, true);
-    limit(b"C 1048579", 919, 1, 7, 163, 1, 1, 1, false);
-    limit(b"C 8589934592", 8192, 64, 64, 256, 1, 1, 1, false);
-    limit(
-        b"G and D 2^32",
-        0x1_0000_0000,
-        0x1_0000_0000,
-        1,
-        1,
-        1,
-        1,
-        1,
-        false,
-    );
-    limit(
-        b"all 2^64 - 1",
-        most,
-        most,
-        most,
-        most,
-        most,
-        most,
-        most,
-        false,
-    );
+    let n: u64 = 0xffff_ffff_ffff_ffff;
+    let half: u64 = 0x1_0000_0000;
+    limit(b"C 1048576", config(128, 64, 64, 2, 1, 1, 1), true);
+    limit(b"C 1048579", config(919, 1, 7, 163, 1, 1, 1), false);
+    limit(b"C 2^33", config(8192, 64, 64, 256, 1, 1, 1), false);
+    limit(b"G, D 2^32", config(half, half, 1, 1, 1, 1, 1), false);
+    limit(b"all 2^64 - 1", config(n, n, n, n, n, n, n), false);
 }
 
 // W, C, b and the store's length.

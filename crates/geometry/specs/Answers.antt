@@ -20,7 +20,11 @@ use Rattle.geometry.specs.declared.address.Verdict.{Verdict}
 use Rattle.geometry.specs.declared.address.Verdict.the-variants.{No, Pass}
 use Rattle.geometry.specs.declared.shape.Config.{Config}
 
--- Making asks for domain, block and elements.
+-- The address of a domain, a block and elements.
+abbrev pub addressOf : Config → ℕ → ℕ → Elements → FlashAddress
+addressOf c d n e = record { domain = d; block = n; offset = offsetOf c e }
+
+-- Making: what it asks of a domain, a block and elements, and the word that it gives.
 abbrev pub createQuestions : Config → ℕ → ℕ → Elements → List Question
 createQuestions c domain block e =
     ask 1 (withinLimits c)
@@ -28,7 +32,13 @@ createQuestions c domain block e =
     ∷ ask 6 (isBlock c block && areElements c e)
     ∷ []
 
--- An address asks for its three fields.
+abbrev pub createValues : Config → ℕ → ℕ → Elements → List ℕ
+createValues c domain block e = wordOf c (addressOf c domain block e) ∷ []
+
+unfoldable pub createAnswer : Config → ℕ → ℕ → Elements → Outcome
+createAnswer c domain block e = answered (createQuestions c domain block e) (createValues c domain block e)
+
+-- The same of an address.
 abbrev pub addressQuestions : Config → FlashAddress → List Question
 addressQuestions c a =
     ask 1 (withinLimits c)
@@ -36,27 +46,50 @@ addressQuestions c a =
     ∷ ask 6 (isBlock c (a .block) && isOffset c (a .offset))
     ∷ []
 
--- The address of a domain, a block and elements.
-abbrev pub addressOf : Config → ℕ → ℕ → Elements → FlashAddress
-addressOf c d n e = record { domain = d; block = n; offset = offsetOf c e }
-
--- The seven numbers that taking apart gives.
-abbrev pub sevenNumbers : FlashAddress → Elements → List ℕ
-sevenNumbers a e = a .domain ∷ a .block ∷ a .offset .0 ∷ e .page ∷ e .die ∷ e .plane ∷ e .adu ∷ []
-
--- Making a word: of a domain, a block and elements, and of an address.
-unfoldable pub createAnswer : Config → ℕ → ℕ → Elements → Outcome
-createAnswer c domain block e = answered (createQuestions c domain block e) (wordOf c (addressOf c domain block e) ∷ [])
-
 unfoldable pub wordAnswer : Config → FlashAddress → Outcome
 wordAnswer c a = answered (addressQuestions c a) (wordOf c a ∷ [])
 
--- Taking a word apart.
-unfoldable pub parseAnswer : Config → ℕ → Outcome
-parseAnswer c word =
-    answered (addressQuestions c (fieldsOf c word)) (sevenNumbers (fieldsOf c word) (elementsOf c (fieldsOf c word .offset)))
+-- Taking apart: what it asks of a word's fields, and the seven numbers that it gives.
+abbrev pub parseQuestions : Config → ℕ → List Question
+parseQuestions c word = addressQuestions c (fieldsOf c word)
 
--- The number of each reason to refuse, and 01's number and values of each answer.
+abbrev pub sevenNumbers : FlashAddress → Elements → List ℕ
+sevenNumbers a e = a .domain ∷ a .block ∷ a .offset .0 ∷ e .page ∷ e .die ∷ e .plane ∷ e .adu ∷ []
+
+abbrev pub parseValues : Config → ℕ → List ℕ
+parseValues c word = sevenNumbers (fieldsOf c word) (elementsOf c (fieldsOf c word .offset))
+
+unfoldable pub parseAnswer : Config → ℕ → Outcome
+parseAnswer c word = answered (parseQuestions c word) (parseValues c word)
+
+-- For the C host: the answer's number, and the lent buffer as it then is.
+pub record Filled : Type 0 where
+  pub number : ℕ
+  pub buffer : List ℕ
+
+abbrev pub returned : ℕ → List ℕ → Filled
+returned n bytes = record { number = n; buffer = bytes }
+
+-- Question 7 comes last: has the buffer size bytes? Success fills the first size with the values, a refusal leaves all as it was.
+unfoldable pub filled : ℕ → List Question → List ℕ → List ℕ → Filled
+filled size qs values buffer =
+    let n = firstNo (qs ++ (ask 7 (leb size (length buffer)) ∷ [])) in
+    cond (eqb n 0) (returned 0 (numbers values ++ drop size buffer)) (returned n buffer)
+
+unfoldable pub createInto : Config → ℕ → ℕ → Elements → List ℕ → Filled
+createInto c domain block e buffer = filled 8 (createQuestions c domain block e) (createValues c domain block e) buffer
+
+unfoldable pub parseInto : Config → ℕ → List ℕ → Filled
+parseInto c word buffer = filled 56 (parseQuestions c word) (parseValues c word) buffer
+
+-- The host's numbers as a configuration and as elements.
+abbrev pub configOf : ℕ → ℕ → ℕ → ℕ → ℕ → ℕ → ℕ → Config
+configOf g d l k s n t = record { pages = g; dies = d; planes = l; adus = k; blocks = s; rated = n; period = t }
+
+abbrev pub elementsGiven : ℕ → ℕ → ℕ → ℕ → Elements
+elementsGiven g d l k = record { page = g; die = d; plane = l; adu = k }
+
+-- The number of each reason to refuse, and 01's number and values of each answer by value.
 abbrev pub numberOf : Refusal → ℕ
 numberOf Limits = 1
 numberOf DomainId = 4
@@ -70,37 +103,6 @@ created (made.Refused r) = refusal (numberOf r)
 abbrev pub parsed : Parsed → Outcome
 parsed (taken.Address a e) = success (sevenNumbers a e)
 parsed (taken.Refused r) = refusal (numberOf r)
-
--- What the C host gets: the answer's number, and its buffer as it then is.
-pub record Filled : Type 0 where
-  pub number : ℕ
-  pub buffer : List ℕ
-
-abbrev pub returned : ℕ → List ℕ → Filled
-returned n bytes = record { number = n; buffer = bytes }
-
--- Question 7 comes last: has the buffer size bytes? Success fills the first size of them, a refusal leaves all as they were.
-unfoldable pub filled : ℕ → List Question → List ℕ → List ℕ → Filled
-filled size qs bytes buffer =
-    let n = firstNo (qs ++ (ask 7 (leb size (length buffer)) ∷ [])) in
-    cond (eqb n 0) (returned 0 (bytes ++ drop size buffer)) (returned n buffer)
-
--- Making fills the first 8 bytes with the word.
-unfoldable pub createInto : Config → ℕ → ℕ → Elements → List ℕ → Filled
-createInto c domain block e buffer =
-    filled 8 (createQuestions c domain block e) (numbers (wordOf c (addressOf c domain block e) ∷ [])) buffer
-
--- Taking apart fills the first 56 with the seven numbers.
-unfoldable pub parseInto : Config → ℕ → List ℕ → Filled
-parseInto c word buffer =
-    filled 56 (addressQuestions c (fieldsOf c word)) (numbers (sevenNumbers (fieldsOf c word) (elementsOf c (fieldsOf c word .offset)))) buffer
-
--- The host's numbers as a configuration and as elements.
-abbrev pub configOf : ℕ → ℕ → ℕ → ℕ → ℕ → ℕ → ℕ → Config
-configOf g d l k s n t = record { pages = g; dies = d; planes = l; adus = k; blocks = s; rated = n; period = t }
-
-abbrev pub elementsGiven : ℕ → ℕ → ℕ → ℕ → Elements
-elementsGiven g d l k = record { page = g; die = d; plane = l; adu = k }
 
 -- What the crate's own functions hand on: 0 where no question was answered no.
 abbrev pub verdictNumber : Verdict → ℕ

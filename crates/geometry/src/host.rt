@@ -13,12 +13,11 @@ ghost use mathlib.Core.Path.{_≡_};
 ghost use Prim.Native.Nat.{_*_, _≤_};
 ghost use lib.ListN.{length};
 ghost use Rattle.geometry.specs.Answers.{configOf, createInto, elementsGiven, filled, parseInto, returned};
-ghost use Rattle.geometry.specs.Bytes.{numbers};
 
 // Question 7, and the numbers at the start of the buffer.
 fn fill(out: &mut [u8], values: &[u64]) -> u64
     requires { ⌜ length (now values) ≤ 7 ⌝ }
-    ensures { λ r. ⌜ returned r (now (out .exit)) ≡ filled (8 * length (now (values .entry))) [] (numbers (now (values .entry))) (now (out .entry)) ⌝ }
+    ensures { λ r. ⌜ returned r (now (out .exit)) ≡ filled (8 * length (now (values .entry))) [] (now (values .entry)) (now (out .entry)) ⌝ }
 {
     if out.len() < 8 * values.len() {
         return Refusal::Output.number();

@@ -9,7 +9,6 @@ use lib.ListN.{length}
 use borrow.Author.Tests.{le-leb, lt-ltb, ltb-true, ne-eqb}
 use Rattle.geometry.specs.Address.{areElements, fieldsOf, isBlock, isDomainId, isOffset, noAddress}
 use Rattle.geometry.specs.Answers.{addressOf, addressQuestions, createQuestions, filled, numberOf, returned}
-use Rattle.geometry.specs.Bytes.{numbers}
 use Rattle.geometry.specs.Questions.{Outcome, Question, answered, ask, firstNo, refusal, success}
 use Rattle.geometry.specs.Shape.{adusPerBlock, withinLimits}
 use Rattle.geometry.specs.declared.address.Elements.{Elements}
@@ -114,14 +113,14 @@ number-positive Output = lit< tt
 
 module _ (size : ℕ) (qs : List Question) (values buffer : List ℕ) where
   -- A refusal by value leaves the buffer.
-  pub filled-no : (bytes : List ℕ) (r : Refusal) → refusal (numberOf r) ≡ answered qs values → returned (numberOf r) buffer ≡ filled size qs bytes buffer
+  pub filled-no : (r : Refusal) → refusal (numberOf r) ≡ answered qs values → returned (numberOf r) buffer ≡ filled size qs values buffer
   unfolding filled
-  filled-no bytes r e =
+  filled-no r e =
       let first : firstNo qs ≡ numberOf r = sym (answered-number qs values) ∙ sym (ap (λ (o : Outcome). o .number) e) in
       rw (then-not qs (ask 7 (leb size (length buffer)) ∷ []) (numberOf r) (number-positive r) first, ne-eqb (numberOf r) 0 (λ z. omega (arith, number-positive r)))
 
   -- The values of an answer go in where question 7 alone is left.
-  pub filled-yes : positive qs ≡ true → (given : List ℕ) → success given ≡ answered qs values → filled size [] (numbers given) buffer ≡ filled size qs (numbers values) buffer
+  pub filled-yes : positive qs ≡ true → (given : List ℕ) → success given ≡ answered qs values → filled size [] given buffer ≡ filled size qs values buffer
   unfolding filled
   filled-yes p given e =
       let none : firstNo qs ≡ 0 = sym (answered-number qs values) ∙ sym (ap (λ (o : Outcome). o .number) e) in

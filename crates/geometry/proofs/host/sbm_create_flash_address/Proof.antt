@@ -27,7 +27,7 @@ fill-requires c κs = search needs
 
 returns : tie.Need-returns
 unfolding createInto createAnswer
-returns c = rw (c .number .ensures) (filled-no 8 _ _ _ _ (c .before .before .r .given .0 .0) (sym (ap created (c .before .before .r .given .1)) ∙ c .before .before .before .before .create-flash-address .ensures))
+returns c = rw (c .number .ensures) (filled-no 8 _ _ _ (c .before .before .r .given .0 .0) (sym (ap created (c .before .before .r .given .1)) ∙ c .before .before .before .before .create-flash-address .ensures))
 
 same-length : tie.Need-same-length
 same-length c = search needs

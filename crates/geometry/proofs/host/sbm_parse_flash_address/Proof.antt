@@ -27,7 +27,7 @@ fill-requires c κs = search needs
 
 returns : tie.Need-returns
 unfolding parseInto parseAnswer
-returns c = rw (c .number .ensures) (filled-no 56 _ _ _ _ (c .before .before .r .given .0 .0) (sym (ap parsed (c .before .before .r .given .1)) ∙ c .before .before .before .before .parse-flash-address .ensures))
+returns c = rw (c .number .ensures) (filled-no 56 _ _ _ (c .before .before .r .given .0 .0) (sym (ap parsed (c .before .before .r .given .1)) ∙ c .before .before .before .before .parse-flash-address .ensures))
 
 same-length : tie.Need-same-length
 same-length c = search needs
