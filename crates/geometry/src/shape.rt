@@ -47,7 +47,7 @@ fn each_in_range(config: Config) -> bool
         & is_between(1, 65535, config.period)
 }
 
-// W. The ranges alone keep the product below 2^25.
+// W. The ranges alone keep the product to at most 2^25.
 fn block_planes(config: Config) -> Planes
     requires { ⌜ eachInRange config ≡ true ⌝ }
     ensures { λ r. ⌜ r ≡ planesPerBlock config ⌝ }
@@ -55,7 +55,7 @@ fn block_planes(config: Config) -> Planes
     Planes(config.pages * config.dies * config.planes)
 }
 
-// C. The ranges alone keep the product below 2^33.
+// C. The ranges alone keep the product to at most 2^33.
 pub(crate) fn block_adus(config: Config) -> Adus
     requires { ⌜ eachInRange config ≡ true ⌝ }
     ensures { λ r. ⌜ r ≡ adusPerBlock config ⌝ }
