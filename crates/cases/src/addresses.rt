@@ -62,7 +62,16 @@ pub fn words() {
     );
 }
 
-// A word is refused to the host; by value too, but for a short buffer, which no value has.
+// The host is refused, with its buffer kept; by value it is the same refusal, but for a short buffer,
+// which no value has.
+fn refused(what: &[u8], name: &[u8], host: u64, kept: bool, value: u64, answer: u64) {
+    let by_value = (value == answer) | (answer == 7) & (value == 0);
+    report::begin((host == answer) & kept & by_value, what, name);
+    report::number(host);
+    report::end();
+}
+
+// A word is not made.
 fn not_made(
     name: &[u8],
     c: Config,
@@ -83,14 +92,7 @@ fn not_made(
     };
     let host = calls::host_made(c, domain, block, e, length);
     let value = calls::value_made(c, domain, block, e);
-    let by_value = (value.answer == answer) | (answer == 7) & (value.answer == 0);
-    report::begin(
-        (host.answer == answer) & host.kept & by_value,
-        b"make",
-        name,
-    );
-    report::number(host.answer);
-    report::end();
+    refused(b"make", name, host.answer, host.kept, value.answer, answer);
 }
 
 // Each question's no, with every later one answered no as well.
@@ -197,18 +199,11 @@ fn ends() {
     );
 }
 
-// A word is refused to the host, and by value likewise.
+// A word is not taken apart.
 fn not_taken(name: &[u8], c: Config, word: u64, length: usize, answer: u64) {
     let host = calls::host_taken(c, word, length);
     let value = calls::value_taken(c, word);
-    let by_value = (value.answer == answer) | (answer == 7) & (value.answer == 0);
-    report::begin(
-        (host.answer == answer) & host.kept & by_value,
-        b"take",
-        name,
-    );
-    report::number(host.answer);
-    report::end();
+    refused(b"take", name, host.answer, host.kept, value.answer, answer);
 }
 
 pub fn not_parts() {

@@ -27,3 +27,10 @@ pub fn word(n: u64) {
 pub fn end() {
     io::write_all(STDOUT_FILENO, b"\n");
 }
+
+// The whole line of a case with one number.
+pub fn compared(what: &[u8], name: &[u8], got: u64, want: u64) {
+    begin(got == want, what, name);
+    number(got);
+    end();
+}

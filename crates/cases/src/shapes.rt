@@ -47,9 +47,7 @@ pub fn odd() -> Config {
 
 fn limit(name: &[u8], c: Config, within: bool) {
     let got = geometry::within_limits(c);
-    report::begin(got == within, b"limit", name);
-    report::number(got as u64);
-    report::end();
+    report::compared(b"limit", name, got as u64, within as u64);
 }
 
 // The smallest configuration with one of its seven numbers, counted from 0, changed.
@@ -149,9 +147,7 @@ fn beside_powers() {
 // Planes rounded up to blocks.
 fn rounded(name: &[u8], c: Config, planes: u64, blocks: u64) {
     let got = geometry::whole_blocks(c, Planes(planes));
-    report::begin(got == blocks, b"blocks of", name);
-    report::number(got);
-    report::end();
+    report::compared(b"blocks of", name, got, blocks);
 }
 
 pub fn rounding() {
@@ -182,9 +178,7 @@ fn rounding_elsewhere() {
 // Where a block's stretch of the store begins.
 fn stretch(name: &[u8], c: Config, block: u64, start: u64) {
     let got = geometry::stretch_start(c, block);
-    report::begin(got.0 == start, b"stretch of block", name);
-    report::number(got.0);
-    report::end();
+    report::compared(b"stretch of block", name, got.0, start);
 }
 
 pub fn stretches() {

@@ -92,11 +92,14 @@ created-addressed c d n e h = record {
 }
 
 -- A refusal by value is the first no.
+number-positive : (r : Refusal) → 0 < numberOf r
+number-positive Limits = lit< tt
+number-positive DomainId = lit< tt
+number-positive Range = lit< tt
+number-positive Output = lit< tt
+
 pub refused : (r : Refusal) (qs : List Question) (values : List ℕ) → numberOf r ≡ firstNo qs → refusal (numberOf r) ≡ answered qs values
-refused Limits qs values e = sym (answered-no qs values 1 (lit< tt) (sym e))
-refused DomainId qs values e = sym (answered-no qs values 4 (lit< tt) (sym e))
-refused Range qs values e = sym (answered-no qs values 6 (lit< tt) (sym e))
-refused Output qs values e = sym (answered-no qs values 7 (lit< tt) (sym e))
+refused r qs values e = sym (answered-no qs values (numberOf r) (number-positive r) (sym e))
 
 -- Whatever a word's fields are taken for outside the limits, the first no is the same.
 pub fields-asked : (c : Config) (word : ℕ) → firstNo (addressQuestions c (cond (withinLimits c) (fieldsOf c word) noAddress)) ≡ firstNo (addressQuestions c (fieldsOf c word))
@@ -104,12 +107,6 @@ unfolding firstNo
 fields-asked c word = by-test (withinLimits c) (λ e. simp e) (λ e. simp e)
 
 -- ---- An answer by value, put into a buffer
-
-number-positive : (r : Refusal) → 0 < numberOf r
-number-positive Limits = lit< tt
-number-positive DomainId = lit< tt
-number-positive Range = lit< tt
-number-positive Output = lit< tt
 
 module _ (size : ℕ) (qs : List Question) (values buffer : List ℕ) where
   -- A refusal by value leaves the buffer.

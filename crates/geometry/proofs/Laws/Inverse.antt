@@ -16,11 +16,11 @@ use Rattle.geometry.proofs.Laws.Shape.{limits}
 
 -- What making accepted, and the word that it gave.
 module _ (c : Config) (d n : ℕ) (e : Elements) (word : ℕ) (made : createAnswer c d n e ≡ success (word ∷ [])) where
-  pub made-of : Creatable c d n e
+  made-of : Creatable c d n e
   unfolding createAnswer
   made-of = creatable c d n e (yes-answered _ _ (ap (λ (o : Outcome). o .number) made))
 
-  pub made-word : word ≡ wordOf c (addressOf c d n e)
+  made-word : word ≡ wordOf c (addressOf c d n e)
   unfolding createAnswer
   made-word =
       let same : word ∷ [] ≡ wordOf c (addressOf c d n e) ∷ [] = ap (λ (o : Outcome). o .values) (sym made ∙ answered-yes _ _ (create-yes c d n e made-of)) in

@@ -2,7 +2,7 @@
 use Prim.Native.Nat.{ℕ, _<_}
 use mathlib.Core.Bool.{Bool, true, false, _&&_}
 use mathlib.Core.List.{List, [], _∷_, _++_}
-use mathlib.Core.Path.{_≡_, refl, sym}
+use mathlib.Core.Path.{_≡_, refl, sym, _∙_}
 use native.Mathlib.Omega.{arith}
 use lib.Dec.{eqb, ltb}
 use borrow.Author.Tests.{eqb-true, ltb-true, ne-eqb}
@@ -35,7 +35,7 @@ then-not [] rs n p e = absurd (omega arith)
 then-not (q ∷ qs) rs n p e =
     by-test (q .holds) (λ h. rw h (then-not qs rs n p (rw h at e))) (λ h. rw h (rw h at e))
 
--- Without a no the answer is the values, and only then; a no is the answer.
+-- Without a no the answer is the values, a no is the answer, and its number says which.
 pub answered-yes : (qs : List Question) (values : List ℕ) → firstNo qs ≡ 0 → answered qs values ≡ success values
 unfolding answered
 answered-yes qs values e = rw e
@@ -44,11 +44,10 @@ pub answered-no : (qs : List Question) (values : List ℕ) (n : ℕ) → 0 < n �
 unfolding answered
 answered-no qs values n p e = rw (e, ne-eqb n 0 (λ z. omega arith))
 
-pub yes-answered : (qs : List Question) (values : List ℕ) → answered qs values .number ≡ 0 → firstNo qs ≡ 0
-unfolding answered
-yes-answered qs values e = by-test (eqb (firstNo qs) 0) (λ h. eqb-true (firstNo qs) 0 h) (λ h. rw h at e)
-
 pub answered-number : (qs : List Question) (values : List ℕ) → answered qs values .number ≡ firstNo qs
 unfolding answered
 answered-number qs values =
     by-test (eqb (firstNo qs) 0) (λ h. rw h (sym (eqb-true (firstNo qs) 0 h))) (λ h. rw h)
+
+pub yes-answered : (qs : List Question) (values : List ℕ) → answered qs values .number ≡ 0 → firstNo qs ≡ 0
+yes-answered qs values e = sym (answered-number qs values) ∙ e

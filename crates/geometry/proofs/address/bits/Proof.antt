@@ -1,5 +1,4 @@
 -- 64 less the leading zeros of C - 1 are its digits, and b is as many.
-use Prim.Native.Nat.{_-_}
 use native.Mathlib.Omega.{arith}
 use lib.Count.{leading-le}
 use Rattle.geometry.proofs.Laws.Address.{bits-counted}
@@ -14,7 +13,7 @@ sub-result : tie.Need-sub-result
 sub-result c = let z = c .before .before in rw (c .before .block-adus .ensures) (omega (arith, limits (z .args .config) (z .pre) .adus .least))
 
 sub-result-2 : tie.Need-sub-result-2
-sub-result-2 c = leading-le 64 (c .before .block-adus .result .0 - 1)
+sub-result-2 c = leading-le 64 _
 
 returns : tie.Need-returns
 returns c = let z = c .before .before in rw (c .before .block-adus .ensures) (bits-counted (z .args .config) (limits (z .args .config) (z .pre)))
