@@ -44,6 +44,10 @@ withinLimits c = eachInRange c && leb (adusPerBlock c .0) 1048576
 abbrev pub counted : Config → ℕ → ℕ
 counted c n = cond (withinLimits c) n 0
 
+-- S × W, the planes of the drive
+unfoldable pub drivePlanes : Config → Planes
+drivePlanes c = planes (c .blocks * planesPerBlock c .0)
+
 -- Planes rounded up to whole blocks, as a number of blocks.
 unfoldable pub wholeBlocks : Config → Planes → ℕ
 wholeBlocks c n = (n .0 + (planesPerBlock c .0 - 1)) / planesPerBlock c .0

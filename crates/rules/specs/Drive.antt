@@ -1,0 +1,138 @@
+-- The drive that the rules speak of, its table and its store, and how blocks and domains are found, counted and replaced in it.
+use Prim.Native.Nat.{ℕ, zero, suc, _+_, _-_}
+use mathlib.Core.Bool.{Bool, true, false, not, _&&_, cond}
+use mathlib.Core.List.{List, _++_, map}
+use mathlib.Core.Option.{Option, none, some}
+use lib.Dec.{eqb}
+use lib.ListN.{drop, getD, length, set, take}
+use Rattle.geometry.specs.Shape.{adus, adusPerBlock}
+use Rattle.geometry.specs.declared.shape.Adus.{Adus}
+use Rattle.model.specs.declared.block.Block.{Block}
+use Rattle.model.specs.declared.block.State.{State}
+use Rattle.model.specs.declared.block.State.the-variants.{Closed, Free, Open}
+use Rattle.model.specs.declared.block.Way.the-variants.{Erase, Placement}
+use Rattle.model.specs.declared.table.Domain.{Domain}
+use Rattle.model.specs.declared.table.Table.{Table}
+use Rattle.rules.specs.Counting.{allTo, countTo}
+
+pub record Drive : Type 0 where
+  pub table : Table
+  pub store : List ℕ
+
+-- A clear record of a block and of a domain.
+abbrev pub clearBlock : Block
+clearBlock = record { state = Free; holder = 0; written = adus 0; left = 0; erases = 0; serial = 0 }
+
+abbrev pub clearDomain : Domain
+clearDomain = record { exists = false; reserved = 0; quota = 0; placements = 0; limit = 0; last = 0 }
+
+-- Block n, and the domain with the ID d; IDs begin at 1.
+abbrev pub blockAt : Table → ℕ → Block
+blockAt t n = getD (t .blocks) n clearBlock
+
+abbrev pub domainAt : Table → ℕ → Domain
+domainAt t d = getD (t .domains) (d - 1) clearDomain
+
+-- S
+abbrev pub size : Table → ℕ
+size t = t .config .blocks
+
+-- The ADUs of block n, which are C for every block.
+abbrev pub capacity : Table → ℕ → Adus
+capacity t n = adusPerBlock (t .config)
+
+-- A test of every block of the drive, and of every domain ID.
+abbrev pub eachBlock : Table → (Block → Bool) → Bool
+eachBlock t p = allTo (λ n. p (blockAt t n)) (size t)
+
+abbrev pub eachDomain : (ℕ → Bool) → Bool
+eachDomain p = allTo (λ i. p (i + 1)) 16
+
+-- ---- A block's state
+
+abbrev pub isFreeState : State → Bool
+isFreeState Free = true
+isFreeState (Open way) = false
+isFreeState (Closed way) = false
+
+abbrev pub isOpenState : State → Bool
+isOpenState Free = false
+isOpenState (Open way) = true
+isOpenState (Closed way) = false
+
+abbrev pub isClosedState : State → Bool
+isClosedState Free = false
+isClosedState (Open way) = false
+isClosedState (Closed way) = true
+
+-- Open by Erase.
+abbrev pub isErasedState : State → Bool
+isErasedState Free = false
+isErasedState (Open Erase) = true
+isErasedState (Open (Placement p)) = false
+isErasedState (Closed way) = false
+
+-- Open for Nameless Write, for the placement p.
+abbrev pub isWrittenState : ℕ → State → Bool
+isWrittenState p Free = false
+isWrittenState p (Open Erase) = false
+isWrittenState p (Open (Placement q)) = eqb q p
+isWrittenState p (Closed way) = false
+
+abbrev pub isFree : Block → Bool
+isFree b = isFreeState (b .state)
+
+abbrev pub isOpen : Block → Bool
+isOpen b = isOpenState (b .state)
+
+abbrev pub isClosed : Block → Bool
+isClosed b = isClosedState (b .state)
+
+-- ---- A domain's blocks
+
+abbrev pub heldBy : ℕ → Block → Bool
+heldBy d b = eqb (b .holder) d
+
+abbrev pub openOf : ℕ → Block → Bool
+openOf d b = heldBy d b && isOpen b
+
+abbrev pub closedOf : ℕ → Block → Bool
+closedOf d b = heldBy d b && isClosed b
+
+-- How many blocks the domain d holds, and how many of them are open and Closed.
+unfoldable pub held : Table → ℕ → ℕ
+held t d = countTo (λ n. heldBy d (blockAt t n)) (size t)
+
+unfoldable pub openCount : Table → ℕ → ℕ
+openCount t d = countTo (λ n. openOf d (blockAt t n)) (size t)
+
+unfoldable pub closedCount : Table → ℕ → ℕ
+closedCount t d = countTo (λ n. closedOf d (blockAt t n)) (size t)
+
+-- The block that the placement p of the domain d has open, looked for below n; there is one at most.
+unfoldable pub openBlockTo : Table → ℕ → ℕ → ℕ → Option ℕ
+openBlockTo t d p zero = none
+openBlockTo t d p (suc n) =
+    cond (heldBy d (blockAt t n) && isWrittenState p (blockAt t n .state)) (some n) (openBlockTo t d p n)
+
+abbrev pub openBlock : Table → ℕ → ℕ → Option ℕ
+openBlock t d p = openBlockTo t d p (size t)
+
+-- ---- Replacing
+
+abbrev pub withBlocks : List Block → Table → Table
+withBlocks bs t = record { config = t .config; domains = t .domains; blocks = bs }
+
+abbrev pub withBlock : ℕ → Block → Table → Table
+withBlock n b t = withBlocks (set (t .blocks) n b) t
+
+-- The same change of every block of the drive; entries at S and above are none.
+abbrev pub withEachBlock : (Block → Block) → Table → Table
+withEachBlock change t = withBlocks (map change (take (size t) (t .blocks)) ++ drop (size t) (t .blocks)) t
+
+abbrev pub withDomain : ℕ → Domain → Table → Table
+withDomain d r t = record { config = t .config; domains = set (t .domains) (d - 1) r; blocks = t .blocks }
+
+-- A row with new entries from a place on, and as it was before and behind them.
+unfoldable pub overwritten : ℕ → List ℕ → List ℕ → List ℕ
+overwritten at new row = take at row ++ (new ++ drop (length new) (drop at row))

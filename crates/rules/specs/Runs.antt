@@ -1,0 +1,37 @@
+-- Document 01, "Whole runs": the reference machine (01: the plain machine), which is fed with the configuration, the first
+-- store and the calls alone.
+use Prim.Native.Nat.{ℕ}
+use mathlib.Core.List.{List, [], _∷_}
+use Rattle.geometry.specs.Questions.{Outcome}
+use Rattle.geometry.specs.declared.shape.Config.{Config}
+use Rattle.model.specs.declared.command.Command.{Command}
+use Rattle.rules.specs.Drive.{Drive}
+use Rattle.rules.specs.Effects.{answerTo, driveAfter}
+use Rattle.rules.specs.Questions.{Lengths}
+use Rattle.rules.specs.Start.{started}
+
+-- A command and the lengths that are lent with it. A store of S × C entries is the run's own, as the last call left it;
+-- one of another length may be lent instead, which question 3 refuses and a command without question 3 never touches.
+pub record Call : Type 0 where
+  pub command : Command
+  pub lent : Lengths
+
+-- The drive with which a run begins.
+abbrev pub begun : Config → List ℕ → Drive
+begun c store = record { table = started c .table; store = store }
+
+-- One call, and a whole list of calls.
+abbrev pub step : Call → Drive → Drive
+step k v = driveAfter v (k .lent) (k .command)
+
+unfoldable pub run : List Call → Drive → Drive
+run [] v = v
+run (k ∷ ks) v = run ks (step k v)
+
+abbrev pub reference : Config → List ℕ → List Call → Drive
+reference c store ks = run ks (begun c store)
+
+-- What each call is answered.
+unfoldable pub answers : List Call → Drive → List Outcome
+answers [] v = []
+answers (k ∷ ks) v = answerTo v (k .lent) (k .command) ∷ answers ks (step k v)

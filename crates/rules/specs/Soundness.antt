@@ -1,0 +1,103 @@
+-- Document 01, "Blocks": "A table is sound if: ..", clause by clause in its order.
+use Prim.Native.Nat.{ℕ}
+use mathlib.Core.Bool.{Bool, true, false, not, _&&_}
+use lib.Dec.{eqb, leb, ltb}
+use Rattle.geometry.specs.Address.{isDomainId}
+use Rattle.geometry.specs.Shape.{between, withinLimits}
+use Rattle.model.specs.declared.block.Block.{Block}
+use Rattle.model.specs.declared.block.State.{State}
+use Rattle.model.specs.declared.block.State.the-variants.{Closed, Free, Open}
+use Rattle.model.specs.declared.block.Way.{Way}
+use Rattle.model.specs.declared.block.Way.the-variants.{Erase, Placement}
+use Rattle.model.specs.declared.table.Domain.{Domain}
+use Rattle.model.specs.declared.table.Table.{Table}
+use Rattle.rules.specs.Counting.{allTo, implies}
+use Rattle.rules.specs.Domains.{covered}
+use Rattle.rules.specs.Drive.{blockAt, capacity, domainAt, eachBlock, eachDomain, held, isFree, isWrittenState, openCount, size}
+
+-- reserved ≤ quota ≤ S and held ≤ quota
+abbrev pub quotaKept : Table → ℕ → Bool
+quotaKept t d =
+    let r = domainAt t d in leb (r .reserved) (r .quota) && leb (r .quota) (size t) && leb (held t d) (r .quota)
+
+-- placement IDs 1 to 16, open limit from that number to 256, blocks open ≤ open limit
+abbrev pub openLimitKept : Table → ℕ → Bool
+openLimitKept t d =
+    let r = domainAt t d in
+    implies (r .exists)
+    (between 1 16 (r .placements) && between (r .placements) 256 (r .limit) && leb (openCount t d) (r .limit))
+
+-- Two blocks of one domain.
+abbrev pub sameHolder : Block → Block → Bool
+sameHolder b other = not (isFree b) && not (isFree other) && eqb (b .holder) (other .holder)
+
+-- A test of every two blocks.
+abbrev pub eachPair : Table → (Block → Block → Bool) → Bool
+eachPair t p = allTo (λ n. allTo (λ m. p (blockAt t n) (blockAt t m)) n) (size t)
+
+-- serials within a domain differ ..
+abbrev pub serialsDiffer : Block → Block → Bool
+serialsDiffer b other = not (sameHolder b other && eqb (b .serial) (other .serial))
+
+-- .. and lie in 1 to its last
+abbrev pub serialGiven : Table → Block → Bool
+serialGiven t b = implies (not (isFree b)) (between 1 (domainAt t (b .holder) .last) (b .serial))
+
+-- holders exist
+abbrev pub holderExists : Table → Block → Bool
+holderExists t b = implies (not (isFree b)) (isDomainId (b .holder) && domainAt t (b .holder) .exists)
+
+-- placements are below the number of IDs
+abbrev pub wayBelow : ℕ → Way → Bool
+wayBelow placements Erase = true
+wayBelow placements (Placement p) = ltb p placements
+
+abbrev pub stateBelow : ℕ → State → Bool
+stateBelow placements Free = true
+stateBelow placements (Open way) = wayBelow placements way
+stateBelow placements (Closed way) = wayBelow placements way
+
+abbrev pub placementExists : Table → Block → Bool
+placementExists t b = stateBelow (domainAt t (b .holder) .placements) (b .state)
+
+-- a placement has one open block at most
+abbrev pub samePlacement : State → State → Bool
+samePlacement Free other = false
+samePlacement (Open Erase) other = false
+samePlacement (Open (Placement p)) other = isWrittenState p other
+samePlacement (Closed way) other = false
+
+abbrev pub placementsDiffer : Block → Block → Bool
+placementsDiffer b other = not (sameHolder b other && samePlacement (b .state) (other .state))
+
+-- open has written < C and left 1 to T, Closed written ≤ C and left 0
+abbrev pub countsKept : ℕ → ℕ → State → Block → Bool
+countsKept c period Free b = true
+countsKept c period (Open way) b = ltb (b .written .0) c && between 1 period (b .left)
+countsKept c period (Closed way) b = leb (b .written .0) c && eqb (b .left) 0
+
+-- Free records (but for the P/E count) ..
+abbrev pub freeIsClear : Block → Bool
+freeIsClear b =
+    implies (isFree b) (eqb (b .holder) 0 && eqb (b .written .0) 0 && eqb (b .left) 0 && eqb (b .serial) 0)
+
+-- .. and missing domains are clear
+abbrev pub missingIsClear : Domain → Bool
+missingIsClear r =
+    implies (not (r .exists))
+    (eqb (r .reserved) 0 && eqb (r .quota) 0 && eqb (r .placements) 0 && eqb (r .limit) 0 && eqb (r .last) 0)
+
+unfoldable pub sound : Table → Bool
+sound t =
+    withinLimits (t .config)
+    && eachDomain (quotaKept t)
+    && covered t
+    && eachDomain (openLimitKept t)
+    && eachPair t serialsDiffer
+    && eachBlock t (serialGiven t)
+    && eachBlock t (holderExists t)
+    && eachBlock t (placementExists t)
+    && eachPair t placementsDiffer
+    && allTo (λ n. countsKept (capacity t n .0) (t .config .period) (blockAt t n .state) (blockAt t n)) (size t)
+    && eachBlock t freeIsClear
+    && eachDomain (λ d. missingIsClear (domainAt t d))
