@@ -1,6 +1,7 @@
 -- Document 01, "Blocks": the changes of a block's record. "Each block goes from state to state only by these."
 use Prim.Native.Nat.{ℕ, _+_, _-_, min}
 use mathlib.Core.Bool.{Bool, true, false, cond}
+use mathlib.Core.List.{List, [], _∷_}
 use lib.Dec.{ltb}
 use Rattle.geometry.specs.Shape.{adus}
 use Rattle.geometry.specs.declared.shape.Adus.{Adus}
@@ -68,7 +69,7 @@ countedFrom (Open way) seconds b =
 unfoldable pub countedDown : ℕ → Block → Block
 countedDown seconds b = countedFrom (b .state) seconds b
 
--- A change, and the record after it.
+-- A change, the record after it, and after several.
 pub data Change : Type 0 where
   opening : (holder : ℕ) (way : Way) (serial period : ℕ) → Change
   writing : (count capacity : Adus) → Change
@@ -82,6 +83,10 @@ changed (writing count capacity) b = writtenOn count capacity b
 changed closing b = closed b
 changed freeing b = freed b
 changed (counting seconds) b = countedDown seconds b
+
+unfoldable pub changedBy : List Change → Block → Block
+changedBy [] b = b
+changedBy (x ∷ xs) b = changedBy xs (changed x b)
 
 abbrev pub opens : Change → Bool
 opens (opening holder way serial period) = true

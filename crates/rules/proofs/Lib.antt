@@ -1,1 +1,9 @@
+pub mod Counting
+pub mod Drive
+pub mod Start
+pub mod Blocks
+pub mod LogPages
+pub mod Questions
+pub mod Effects
+pub mod Runs
 pub mod ProvedTable

@@ -5,6 +5,8 @@ use mathlib.Core.List.{List, [], _∷_}
 use Rattle.geometry.specs.Questions.{Outcome}
 use Rattle.geometry.specs.declared.shape.Config.{Config}
 use Rattle.model.specs.declared.command.Command.{Command}
+use Rattle.model.specs.declared.command.Command.the-variants.{ChangeCapacity, Close, Create, Delete, Erase, Free, List as Listing, Page, Pulse, Read}
+use Rattle.model.specs.declared.command.Command.the-variants.{WriteByBlock, WriteByPlacement}
 use Rattle.rules.specs.Drive.{Drive}
 use Rattle.rules.specs.Effects.{answerTo, driveAfter}
 use Rattle.rules.specs.Questions.{Lengths}
@@ -35,3 +37,18 @@ reference c store ks = run ks (begun c store)
 unfoldable pub answers : List Call → Drive → List Outcome
 answers [] v = []
 answers (k ∷ ks) v = answerTo v (k .lent) (k .command) ∷ answers ks (step k v)
+
+-- The domain that a command names as its own; Pulse names none.
+abbrev pub ownDomain : Command → ℕ
+ownDomain (Create d guarantee quota placements limit) = d
+ownDomain (ChangeCapacity d guarantee quota) = d
+ownDomain (Delete d) = d
+ownDomain (Erase d n) = d
+ownDomain (Close d n) = d
+ownDomain (Free d n) = d
+ownDomain (WriteByPlacement d p start count) = d
+ownDomain (WriteByBlock d n start count) = d
+ownDomain (Read d address count expected) = d
+ownDomain (Page d n) = d
+ownDomain (Listing d which) = d
+ownDomain (Pulse seconds) = 0

@@ -1,0 +1,113 @@
+-- The laws of sums, tests and rows over the numbers below n.
+use Prim.Native.Nat.{ℕ, zero, suc, _+_, _≤_, _<_}
+use mathlib.Core.Bool.{Bool, true, false, _&&_, cond}
+use mathlib.Core.List.{List, [], _∷_, _++_}
+use mathlib.Core.Path.{_≡_, refl, sym, ap₂, _∙_}
+use native.Mathlib.Omega.{arith}
+use lib.Dec.{eqb, ltb}
+use lib.ListN.{length, length-append}
+use borrow.Author.Tests.{eq-eqb, eqb-false, eqb-true, le-ltb, lt-ltb, ltb-false, ltb-true, ne-eqb}
+use Rattle.geometry.proofs.Laws.Shape.{by-test}
+use Rattle.rules.specs.Counting.{allTo, countTo, numbersTo, rowTo, sumTo}
+use Rattle.rules.specs.LogPages.{timesIn}
+
+-- Cases of an equation of numbers.
+pub by-eq : {P : Type 0} (k n : ℕ) → (k ≡ n → P) → (¬ (k ≡ n) → P) → P
+by-eq k n same other = by-test (eqb k n) (λ e. same (eqb-true k n e)) (λ e. other (eqb-false k n e))
+
+-- ---- Sums
+
+pub sum-same : (n : ℕ) (f g : ℕ → ℕ) → ((i : ℕ) → i < n → f i ≡ g i) → sumTo f n ≡ sumTo g n
+unfolding sumTo
+sum-same zero f g h = refl
+sum-same (suc n) f g h = ap₂ _+_ (sum-same n f g (λ i l. h i (omega arith))) (h n (omega arith))
+
+pub sum-zero : (n : ℕ) (f : ℕ → ℕ) → ((i : ℕ) → i < n → f i ≡ 0) → sumTo f n ≡ 0
+unfolding sumTo
+sum-zero zero f h = refl
+sum-zero (suc n) f h = omega (arith, sum-zero n f (λ i l. h i (omega arith)), h n (omega arith))
+
+pub sum-add : (n : ℕ) (f g : ℕ → ℕ) → sumTo (λ i. f i + g i) n ≡ sumTo f n + sumTo g n
+unfolding sumTo
+sum-add zero f g = refl
+sum-add (suc n) f g = omega (arith, sum-add n f g)
+
+-- One number below n is one.
+pub count-one : (n m : ℕ) → m < n → countTo (eqb m) n ≡ 1
+unfolding sumTo
+count-one zero m l = absurd (omega arith)
+count-one (suc n) m l =
+    by-eq m n
+    (λ e. rw (eq-eqb m n e) (omega (arith, sum-zero n (λ i. cond (eqb m i) 1 0) (λ i k. rw (ne-eqb m i (λ q. omega arith))))))
+    (λ e. rw (ne-eqb m n e) (omega (arith, count-one n m (omega arith))))
+
+-- ---- Tests
+
+pub each-all : (n : ℕ) (p : ℕ → Bool) → ((i : ℕ) → i < n → p i ≡ true) → allTo p n ≡ true
+unfolding allTo
+each-all zero p h = refl
+each-all (suc n) p h = rw (each-all n p (λ i l. h i (omega arith)), h n (omega arith))
+
+-- ---- Rows
+
+pub length-row : (f : ℕ → ℕ) (n : ℕ) → length (rowTo f n) ≡ n
+unfolding rowTo
+length-row f zero = refl
+length-row f (suc n) = rw (length-append, length-row f n) (omega arith)
+
+pub length-numbers : (p : ℕ → Bool) (n : ℕ) → length (numbersTo p n) ≡ countTo p n
+unfolding numbersTo sumTo
+length-numbers p zero = refl
+length-numbers p (suc n) =
+    rw (length-append, length-numbers p n) (by-test (p n) (λ e. rw e) (λ e. rw e))
+
+-- ---- How often a number stands in a list
+
+pub times-append : (n : ℕ) (ms ks : List ℕ) → timesIn n (ms ++ ks) ≡ timesIn n ms + timesIn n ks
+unfolding timesIn
+times-append n [] ks = omega arith
+times-append n (m ∷ ms) ks = omega (arith, times-append n ms ks)
+
+-- One entry is one, and is no other.
+times-one : (n m : ℕ) → timesIn m (n ∷ []) ≡ cond (eqb n m) 1 0
+unfolding timesIn
+times-one n m = omega arith
+
+times-none : (m : ℕ) → timesIn m [] ≡ 0
+unfolding timesIn
+times-none m = refl
+
+times-if : (b : Bool) (n m : ℕ) → timesIn m (cond b (n ∷ []) []) ≡ cond (eqb n m && b) 1 0
+times-if true n m = by-test (eqb n m) (λ e. rw (times-one n m, e)) (λ e. rw (times-one n m, e))
+times-if false n m = by-test (eqb n m) (λ e. rw (times-none m, e)) (λ e. rw (times-none m, e))
+
+pub numbers-once : (p : ℕ → Bool) (n m : ℕ) → timesIn m (numbersTo p n) ≡ cond (ltb m n && p m) 1 0
+unfolding numbersTo
+numbers-once p zero m = rw (le-ltb m 0 (omega arith)) (times-none m)
+numbers-once p (suc n) m =
+    rw (times-append, numbers-once p n m, times-if)
+    (by-eq n m
+      (λ e. rw (← e, le-ltb n n (omega arith), lt-ltb n (suc n) (omega arith), eq-eqb n n refl) (omega arith))
+      (λ e. rw (ne-eqb n m e)
+        (by-test (ltb m n)
+          (λ q. rw (q, lt-ltb m (suc n) (omega (arith, ltb-true m n q))) (omega arith))
+          (λ q. rw (q, le-ltb m (suc n) (beyond e (ltb-false m n q)))))))
+  where
+  beyond : ¬ (n ≡ m) → n ≤ m → suc n ≤ m
+  beyond e l = omega (arith)
+
+-- A list that has nothing from n on has as many entries as the numbers below n stand in it.
+pub length-times : (n : ℕ) (ms : List ℕ) → ((i : ℕ) → n ≤ i → timesIn i ms ≡ 0) → length ms ≡ sumTo (λ i. timesIn i ms) n
+unfolding timesIn
+length-times n [] h = sym (sum-zero n (λ i. 0) (λ i l. refl))
+length-times n (m ∷ ms) h =
+    let inside : m < n = by-test (ltb m n) (λ e. ltb-true m n e) (λ e. absurd (at-m (h m (ltb-false m n e)))) in
+    omega (
+      arith,
+      length-times n ms (λ i l. omega (arith, h i l)),
+      sum-add n (λ i. cond (eqb m i) 1 0) (λ i. timesIn i ms),
+      count-one n m inside,
+    )
+  where
+  at-m : cond (eqb m m) 1 0 + timesIn m ms ≡ 0 → ⊥
+  at-m e = omega (arith, rw (eq-eqb m m refl) at e)

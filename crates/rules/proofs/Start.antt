@@ -1,0 +1,88 @@
+-- The table of zeros is never sound, and a started one is.
+use Prim.Native.Nat.{ℕ, _+_, _-_, _<_}
+use mathlib.Core.Bool.{Bool, true, false, _&&_}
+use mathlib.Core.Path.{_≡_, refl, sym}
+use native.Mathlib.Omega.{arith}
+use lib.Dec.{eqb, leb}
+use borrow.Author.Tests.{le-leb, ne-eqb}
+use Rattle.geometry.specs.Shape.{adusPerBlock, eachInRange, planesPerBlock, withinLimits}
+use Rattle.geometry.specs.declared.shape.Config.{Config}
+use Rattle.geometry.proofs.Laws.Shape.{by-test}
+use Rattle.model.specs.declared.block.Block.{Block}
+use Rattle.rules.specs.Counting.{allTo}
+use Rattle.rules.specs.Domains.{covered, coverage, reservedBy}
+use Rattle.rules.specs.Drive.{blockAt, clearBlock, clearDomain, domainAt, eachBlock, eachDomain, held, heldBy, openCount, openOf}
+use Rattle.rules.specs.Soundness.{sound, quotaKept, openLimitKept, eachPair, serialsDiffer, serialGiven, holderExists, placementExists, placementsDiffer, countsKept, freeIsClear, missingIsClear}
+use Rattle.rules.specs.Start.{emptyTable, started, tableOfZeros}
+use Rattle.rules.proofs.Counting.{each-all, sum-zero}
+use Rattle.rules.proofs.Drive.{get-replicate}
+
+pub zeros-unsound : sound tableOfZeros ≡ false
+unfolding sound withinLimits eachInRange
+zeros-unsound = refl
+
+pub refused-start-unsound : (c : Config) → withinLimits c ≡ false → sound (started c .table) ≡ false
+unfolding started
+refused-start-unsound c e = rw e zeros-unsound
+
+-- In an empty table every block and every domain is clear, and nothing is held.
+clear-block : (c : Config) (n : ℕ) → blockAt (emptyTable c) n ≡ clearBlock
+clear-block c n = get-replicate 256 n clearBlock
+
+clear-domain : (c : Config) (d : ℕ) → domainAt (emptyTable c) d ≡ clearDomain
+clear-domain c d = get-replicate 16 (d - 1) clearDomain
+
+none-held : (c : Config) (d : ℕ) → 0 < d → held (emptyTable c) d ≡ 0
+unfolding held
+none-held c d p = sum-zero (c .blocks) _ (λ n l. rw (clear-block c n, ne-eqb 0 d (λ e. omega arith)))
+
+none-open : (c : Config) (d : ℕ) → openCount (emptyTable c) d ≡ 0
+unfolding openCount
+none-open c d = sum-zero (c .blocks) _ (λ n l. rw (clear-block c n) (by-test (eqb 0 d) (λ e. rw e) (λ e. rw e)))
+
+-- A test that a clear block passes, every block of an empty table passes; so of every two, and of every domain.
+blocks-pass : (c : Config) (p : Block → Bool) → p clearBlock ≡ true → eachBlock (emptyTable c) p ≡ true
+blocks-pass c p e = each-all (c .blocks) _ (λ n l. rw (clear-block c n) e)
+
+pairs-pass : (c : Config) (p : Block → Block → Bool) → p clearBlock clearBlock ≡ true → eachPair (emptyTable c) p ≡ true
+pairs-pass c p e =
+    each-all (c .blocks) _ (λ n l. each-all n _ (λ m k. rw (clear-block c n, clear-block c m) e))
+
+domains-pass : (p : ℕ → Bool) → ((d : ℕ) → 0 < d → p d ≡ true) → eachDomain p ≡ true
+domains-pass p h = each-all 16 _ (λ i l. h (i + 1) (omega arith))
+
+quota-kept : (c : Config) (d : ℕ) → 0 < d → quotaKept (emptyTable c) d ≡ true
+quota-kept c d p = rw (clear-domain c d, none-held c d p, le-leb 0 (c .blocks) (omega arith))
+
+no-coverage : (c : Config) → coverage (reservedBy (emptyTable c)) (held (emptyTable c)) ≡ 0
+unfolding coverage
+no-coverage c =
+    sum-zero 16 _ (λ i l.
+      let none : reservedBy (emptyTable c) (i + 1) ≡ 0 = rw (reservedBy, clear-domain c (i + 1)) in
+      omega (arith, none, none-held c (i + 1) (omega arith)))
+
+is-covered : (c : Config) → covered (emptyTable c) ≡ true
+is-covered c = rw (no-coverage c) (le-leb 0 (c .blocks) (omega arith))
+
+joined : {a b : Bool} → a ≡ true → b ≡ true → a && b ≡ true
+joined e f = rw (e, f)
+
+pub empty-sound : (c : Config) → withinLimits c ≡ true → sound (emptyTable c) ≡ true
+unfolding sound
+empty-sound c e =
+    joined (joined (joined (joined (joined (joined (joined (joined (joined (joined (joined e
+      (domains-pass (quotaKept (emptyTable c)) (quota-kept c)))
+      (is-covered c))
+      (domains-pass (openLimitKept (emptyTable c)) (λ d p. rw (clear-domain c d))))
+      (pairs-pass c serialsDiffer refl))
+      (blocks-pass c (serialGiven (emptyTable c)) refl))
+      (blocks-pass c (holderExists (emptyTable c)) refl))
+      (blocks-pass c (placementExists (emptyTable c)) refl))
+      (pairs-pass c placementsDiffer refl))
+      (each-all (c .blocks) _ (λ n l. rw (clear-block c n))))
+      (blocks-pass c freeIsClear refl))
+      (domains-pass (λ d. missingIsClear (domainAt (emptyTable c) d)) (λ d p. rw (clear-domain c d)))
+
+pub started-sound : (c : Config) → withinLimits c ≡ true → sound (started c .table) ≡ true
+unfolding started
+started-sound c e = rw e (empty-sound c e)
