@@ -95,9 +95,9 @@ not-erased-not-rewound (x ∷ xs) b p same =
     by-test (opens x)
     (λ e. absurd (omega (arith, erases-rise xs (changed x b), opening-erases x b e, one-more (b .erases) p, same)))
     (λ e.
-      let k = kept x b e in
-      omega (
-        arith,
-        not-erased-not-rewound xs (changed x b) (omega (arith, k .erases)) (omega (arith, k .erases, same)),
-        k .left,
-      ))
+    let k = kept x b e in
+    omega (
+      arith,
+      not-erased-not-rewound xs (changed x b) (omega (arith, k .erases)) (omega (arith, k .erases, same)),
+      k .left,
+    ))

@@ -43,6 +43,10 @@ closedFrom (Open way) b = withState (Closed way) 0 b
 unfoldable pub closed : Block → Block
 closed b = closedFrom (b .state) b
 
+-- Freeing: all of the record is cleared but the P/E count.
+abbrev pub freed : Block → Block
+freed b = record { state = Free; holder = 0; written = adus 0; left = 0; erases = b .erases; serial = 0 }
+
 -- Writing on: an open block has so many ADUs more, no more than its capacity, and is Closed at its last one.
 abbrev pub writtenFrom : State → Adus → Adus → Block → Block
 writtenFrom Free count capacity b = b
@@ -54,10 +58,6 @@ writtenFrom (Open way) count capacity b =
 
 unfoldable pub writtenOn : Adus → Adus → Block → Block
 writtenOn count capacity b = writtenFrom (b .state) count capacity b
-
--- Freeing: all of the record is cleared but the P/E count.
-abbrev pub freed : Block → Block
-freed b = record { state = Free; holder = 0; written = adus 0; left = 0; erases = b .erases; serial = 0 }
 
 -- Counting down: an open block has so many seconds less; at 0 or below it is Closed with 0 left.
 abbrev pub countedFrom : State → ℕ → Block → Block

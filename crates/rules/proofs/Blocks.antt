@@ -2,21 +2,16 @@
 use Prim.Native.Nat.{ℕ, zero, suc, _≤_, _<_}
 use mathlib.Core.Bool.{Bool, true, false, true≢false}
 use mathlib.Core.Option.{Option, none, some}
-use mathlib.Core.Path.{_≡_, refl, sym, _∙_}
+use mathlib.Core.Path.{_≡_, sym, _∙_}
 use native.Mathlib.Omega.{arith}
 use lib.Dec.{ltb}
 use borrow.Author.Tests.{ltb-false, ltb-true}
 use Rattle.geometry.proofs.Laws.Shape.{by-test}
 use Rattle.model.specs.declared.table.Table.{Table}
 use Rattle.rules.specs.Blocks.{better, chosenTo}
+use Rattle.rules.specs.Claims.{Chosen}
 use Rattle.rules.specs.Drive.{blockAt, isFree}
 use Rattle.rules.proofs.Counting.{by-eq}
-
-pub record Chosen (t : Table) (size n : ℕ) : Type 0 where
-  pub inside : n < size
-  pub free : isFree (blockAt t n) ≡ true
-  pub least : (m : ℕ) → m < size → isFree (blockAt t m) ≡ true → blockAt t n .erases ≤ blockAt t m .erases
-  pub lowest : (m : ℕ) → m < n → isFree (blockAt t m) ≡ true → blockAt t n .erases < blockAt t m .erases
 
 -- What is chosen among so many blocks; nothing is only where none is Free.
 abbrev pub Choice : Table → ℕ → Option ℕ → Type 0
@@ -60,8 +55,8 @@ next t n none c =
 next t n (some m) c =
     by-test (isFree (blockAt t n))
     (λ e. by-test (ltb (blockAt t n .erases) (blockAt t m .erases))
-      (λ l. rw (e, l) (taken t n e (λ i k f. omega (arith, ltb-true (blockAt t n .erases) (blockAt t m .erases) l, c .least i k f))))
-      (λ l. rw (e, l) (stays t n m c (λ f. ltb-false (blockAt t n .erases) (blockAt t m .erases) l))))
+    (λ l. rw (e, l) (taken t n e (λ i k f. omega (arith, ltb-true (blockAt t n .erases) (blockAt t m .erases) l, c .least i k f))))
+    (λ l. rw (e, l) (stays t n m c (λ f. ltb-false (blockAt t n .erases) (blockAt t m .erases) l))))
     (λ e. rw e (stays t n m c (λ f. clash (isFree (blockAt t n)) f e)))
 
 pub choice : (t : Table) (size : ℕ) → Choice t size (chosenTo t size)

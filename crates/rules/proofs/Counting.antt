@@ -2,7 +2,7 @@
 use Prim.Native.Nat.{ℕ, zero, suc, _+_, _≤_, _<_}
 use mathlib.Core.Bool.{Bool, true, false, _&&_, cond}
 use mathlib.Core.List.{List, [], _∷_, _++_}
-use mathlib.Core.Path.{_≡_, refl, sym, ap₂, _∙_}
+use mathlib.Core.Path.{_≡_, refl, sym, ap₂}
 use native.Mathlib.Omega.{arith}
 use lib.Dec.{eqb, ltb}
 use lib.ListN.{length, length-append}
@@ -87,14 +87,14 @@ numbers-once p zero m = rw (le-ltb m 0 (omega arith)) (times-none m)
 numbers-once p (suc n) m =
     rw (times-append, numbers-once p n m, times-if)
     (by-eq n m
-      (λ e. rw (← e, le-ltb n n (omega arith), lt-ltb n (suc n) (omega arith), eq-eqb n n refl) (omega arith))
-      (λ e. rw (ne-eqb n m e)
-        (by-test (ltb m n)
-          (λ q. rw (q, lt-ltb m (suc n) (omega (arith, ltb-true m n q))) (omega arith))
-          (λ q. rw (q, le-ltb m (suc n) (beyond e (ltb-false m n q)))))))
+    (λ e. rw (← e, le-ltb n n (omega arith), lt-ltb n (suc n) (omega arith), eq-eqb n n refl) (omega arith))
+    (λ e. rw (ne-eqb n m e)
+    (by-test (ltb m n)
+    (λ q. rw (q, lt-ltb m (suc n) (omega (arith, ltb-true m n q))) (omega arith))
+    (λ q. rw (q, le-ltb m (suc n) (beyond e (ltb-false m n q)))))))
   where
-  beyond : ¬ (n ≡ m) → n ≤ m → suc n ≤ m
-  beyond e l = omega (arith)
+    beyond : ¬ (n ≡ m) → n ≤ m → suc n ≤ m
+    beyond e l = omega (arith)
 
 -- A list that has nothing from n on has as many entries as the numbers below n stand in it.
 pub length-times : (n : ℕ) (ms : List ℕ) → ((i : ℕ) → n ≤ i → timesIn i ms ≡ 0) → length ms ≡ sumTo (λ i. timesIn i ms) n
@@ -109,5 +109,5 @@ length-times n (m ∷ ms) h =
       count-one n m inside,
     )
   where
-  at-m : cond (eqb m m) 1 0 + timesIn m ms ≡ 0 → ⊥
-  at-m e = omega (arith, rw (eq-eqb m m refl) at e)
+    at-m : cond (eqb m m) 1 0 + timesIn m ms ≡ 0 → ⊥
+    at-m e = omega (arith, rw (eq-eqb m m refl) at e)

@@ -1,7 +1,7 @@
 -- What is found in a drive in which something was replaced.
 use Prim.Native.Nat.{ℕ, zero, suc, _-_, _<_}
 use mathlib.Core.List.{List, [], _∷_, _++_, map}
-use mathlib.Core.Path.{_≡_, refl, sym, subst}
+use mathlib.Core.Path.{_≡_, refl}
 use native.Mathlib.Omega.{arith}
 use lib.ListN.{drop, getD, replicate, set, take}
 use lib.Seq.{getD-set-other}
@@ -9,7 +9,6 @@ use Rattle.model.specs.declared.block.Block.{Block}
 use Rattle.model.specs.declared.table.Domain.{Domain}
 use Rattle.model.specs.declared.table.Table.{Table}
 use Rattle.rules.specs.Drive.{blockAt, clearBlock, clearDomain, domainAt, overwritten, withBlock, withDomain, withEachBlock}
-use Rattle.rules.proofs.Counting.{by-eq}
 
 -- A list of one value, read with that value as the default.
 pub get-replicate : {A : Type 0} (k n : ℕ) (a : A) → getD (replicate k a) n a ≡ a

@@ -5,13 +5,12 @@ use mathlib.Core.List.{List, []}
 use mathlib.Core.Option.{Option, none, some}
 use mathlib.Core.Path.{_≡_, refl, sym, ap, _∙_}
 use native.Mathlib.Omega.{arith}
-use lib.Dec.{eqb}
 use lib.ListN.{drop, length, length-append, length-take, take, take-append-drop}
 use borrow.Author.Tests.{eqb-true, leb-true, ne-eqb}
 use Rattle.geometry.proofs.Laws.Questions.{answered-number}
 use Rattle.geometry.proofs.Laws.Shape.{by-test}
 use Rattle.geometry.specs.Address.{fieldsOf}
-use Rattle.geometry.specs.Questions.{Outcome, answered, refusal}
+use Rattle.geometry.specs.Questions.{answered}
 use Rattle.geometry.specs.Shape.{adusPerBlock, stretchStart}
 use Rattle.model.specs.declared.block.Way.the-variants.{Placement}
 use Rattle.model.specs.declared.command.Command.{Command}
@@ -20,22 +19,16 @@ use Rattle.model.specs.declared.command.Command.the-variants.{WriteByBlock, Wri
 use Rattle.model.specs.declared.command.Listed.the-variants as listed
 use Rattle.model.specs.declared.table.Table.{Table}
 use Rattle.rules.specs.Blocks.{chosenBlock, erasedBlock, newBlocks, openedFor, room, userAddress, userAddresses, writtenByPlacement, writtenFirst, writtenInto, writtenNext, writtenOnwards}
+use Rattle.rules.specs.Claims.{Unchanged}
 use Rattle.rules.specs.Counting.{numbersTo}
 use Rattle.rules.specs.Drive.{Drive, blockAt, openBlock, openOf, overwritten, size}
 use Rattle.rules.specs.Effects.{BytesFilled, Fills, FillsIf, Served, Serves, accepted, answerTo, driveAfter, effect, erasing, lengthsOf, verdict, wordsFilled}
-use Rattle.rules.specs.LogPages.{OpenList, closedList, listLength, listOf, openMark, page}
+use Rattle.rules.specs.LogPages.{closedList, listLength, listOf, openMark, page}
 use Rattle.rules.specs.Questions.{Lengths, questions}
 use Rattle.rules.proofs.Counting.{length-row, numbers-once}
 use Rattle.rules.proofs.Drive.{overwritten-nothing}
 use Rattle.rules.proofs.LogPages.{closed-list-length, open-list-length, page-length}
 use Rattle.rules.proofs.Questions.{answered-yes}
-
--- A call that was answered with a refusal.
-pub record Unchanged (v : Drive) (words bytes : List ℕ) (r : Served) : Type 0 where
-  pub no-values : r .answer ≡ refusal (r .answer .number)
-  pub same-drive : r .drive ≡ v
-  pub same-words : r .words ≡ words
-  pub same-bytes : r .bytes ≡ bytes
 
 pub refused-unchanged : (v : Drive) (c : Command) (words bytes : List ℕ) (r : Served)
     → Serves v c words bytes r
@@ -80,14 +73,15 @@ fill-if false c t = ([], refl)
 pub always-answered : (v : Drive) (c : Command) (words bytes : List ℕ) → (r : Served) × Serves v c words bytes r
 always-answered v c words bytes =
     let lent = lengthsOf v words bytes in
-    let filled = fill-if (accepted v lent c) c (v .table) in
-    (record {
-      answer = answerTo v lent c;
-      drive = driveAfter v lent c;
-      words = overwritten 0 (wordsFilled v lent c) words;
-      bytes = overwritten 0 (filled .0) bytes;
-    },
-    record { answers = refl; leaves = refl; fills-words = refl; fills-bytes = (filled .0, filled .1, refl) })
+    let filled = fill-if (accepted v lent c) c (v .table) in (
+      record {
+        answer = answerTo v lent c;
+        drive = driveAfter v lent c;
+        words = overwritten 0 (wordsFilled v lent c) words;
+        bytes = overwritten 0 (filled .0) bytes;
+      },
+      record { answers = refl; leaves = refl; fills-words = refl; fills-bytes = (filled .0, filled .1, refl) },
+    )
 
 -- ---- What is filled fits what is lent.
 

@@ -1,43 +1,23 @@
 -- The page's layout, and the lengths of what Page and List fill.
-use Prim.Native.Nat.{ℕ, _+_, _*_, _≤_}
-use mathlib.Core.Bool.{_&&_, cond}
-use mathlib.Core.List.{List, [], _∷_, _++_}
-use mathlib.Core.Path.{_≡_, refl, sym, ap, _∙_}
+use Prim.Native.Nat.{ℕ, _+_, _*_}
+use mathlib.Core.Bool.{cond}
+use mathlib.Core.List.{List, [], _∷_}
+use mathlib.Core.Path.{_≡_, refl}
 use native.Mathlib.Omega.{arith}
-use lib.Dec.{ltb}
-use lib.ListN.{drop, length, replicate, take}
+use lib.ListN.{length}
 use borrow.Author.Tests.{le-ltb, lt-ltb}
 use Rattle.geometry.specs.Bytes.{littleEndian}
 use Rattle.model.specs.declared.block.Block.{Block}
 use Rattle.model.specs.declared.command.Listed.the-variants as listed
 use Rattle.model.specs.declared.table.Table.{Table}
-use Rattle.rules.specs.Drive.{blockAt, capacity, closedCount, closedOf, isOpen, openCount, openOf, size}
-use Rattle.rules.specs.LogPages.{OpenList, closedList, integrity, listLength, listOf, openMark, page, placementField, stateByte, timesIn, wearIndex}
+use Rattle.rules.specs.Claims.{Layout}
+use Rattle.rules.specs.Drive.{blockAt, closedCount, openCount, openOf, size}
+use Rattle.rules.specs.LogPages.{OpenList, closedList, listLength, listOf, openMark, page, timesIn}
 use Rattle.rules.proofs.Counting.{length-numbers, length-times, sum-same}
 
 pub page-length : (t : Table) (n : ℕ) → length (page t n) ≡ 256
 unfolding page littleEndian
 page-length t n = refl
-
--- The bytes from a place on.
-abbrev pub bytesAt : ℕ → ℕ → List ℕ → List ℕ
-bytesAt at width bytes = take width (drop at bytes)
-
--- Each field stands where document 01 puts it, with its width, and the rest is 0.
-pub record Layout (t : Table) (n : ℕ) (bytes : List ℕ) : Type 0 where
-  pub device : bytesAt 0 2 bytes ≡ littleEndian 2 1
-  pub zero-byte : bytesAt 2 1 bytes ≡ littleEndian 1 0
-  pub state : bytesAt 3 1 bytes ≡ littleEndian 1 (stateByte (blockAt t n .state))
-  pub number : bytesAt 4 4 bytes ≡ littleEndian 4 n
-  pub placement : bytesAt 8 2 bytes ≡ littleEndian 2 (placementField (blockAt t n .state))
-  pub domain : bytesAt 10 2 bytes ≡ littleEndian 2 (blockAt t n .holder)
-  pub index : bytesAt 12 1 bytes ≡ littleEndian 1 (wearIndex (t .config) (blockAt t n .erases))
-  pub health : bytesAt 13 1 bytes ≡ littleEndian 1 (integrity (blockAt t n))
-  pub time-left : bytesAt 14 2 bytes ≡ littleEndian 2 0
-  pub all : bytesAt 16 4 bytes ≡ littleEndian 4 (capacity t n .0)
-  pub written : bytesAt 20 4 bytes ≡ littleEndian 4 (cond (isOpen (blockAt t n)) (blockAt t n .written .0) 0)
-  pub serial : bytesAt 24 4 bytes ≡ littleEndian 4 (blockAt t n .serial)
-  pub rest : drop 28 bytes ≡ replicate 228 0
 
 pub page-layout : (t : Table) (n : ℕ) → Layout t n (page t n)
 unfolding page littleEndian
@@ -70,7 +50,10 @@ closed-list-length t d = rw (list-length, length-numbers)
 pub open-list-length : (t : Table) (d : ℕ) (bytes : List ℕ) → OpenList t d bytes → length bytes ≡ listLength t d listed.Open
 unfolding openCount
 open-list-length t d bytes l =
-    rw (l .descriptors, list-length t openMark (l .order),
+    rw (
+      l .descriptors,
+      list-length t openMark (l .order),
       length-times (size t) (l .order) (λ i k. rw (l .each-once i, le-ltb i (size t) k)),
       sum-same (size t) (λ i. timesIn i (l .order)) (λ i. cond (openOf d (blockAt t i)) 1 0)
-        (λ i k. rw (l .each-once i, lt-ltb i (size t) k)))
+          (λ i k. rw (l .each-once i, lt-ltb i (size t) k)),
+    )

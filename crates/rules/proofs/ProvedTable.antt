@@ -9,7 +9,7 @@ use Rattle.model.specs.Blocks.{closed, countedDown, writtenOn}
 use Rattle.rules.specs.Blocks.{chosenTo, newBlocks, openedFor, userAddress, writtenByPlacement, writtenInto, writtenOnwards}
 use Rattle.rules.specs.Counting.{allTo, numbersTo, rowTo, sumTo}
 use Rattle.rules.specs.Domains.{coverage, createdDomain}
-use Rattle.rules.specs.Drive.{held, openBlockTo, openCount, overwritten}
+use Rattle.rules.specs.Drive.{heldCount, openBlockTo, openCount, overwritten}
 use Rattle.rules.specs.Effects.{driveAfter, effect, wordsFilled}
 use Rattle.rules.specs.ProvedTable.{allAgree, provedTable, sameNumbers}
 use Rattle.rules.specs.Questions.{questions, userAddressesFit}
@@ -18,5 +18,5 @@ use Rattle.rules.specs.Soundness.{sound}
 use Rattle.rules.specs.Start.{started}
 
 pub proved-table : allAgree provedTable ≡ true
-unfolding areElements elementsOf fieldsOf leastFrom offsetBits offsetOf wordOf createAnswer parseAnswer answered firstNo adusPerBlock drivePlanes eachInRange planesPerBlock storeLength stretchStart wholeBlocks withinLimits closed countedDown writtenOn chosenTo newBlocks openedFor userAddress writtenByPlacement writtenInto writtenOnwards allTo numbersTo rowTo sumTo coverage createdDomain held openBlockTo openCount overwritten driveAfter effect wordsFilled allAgree sameNumbers questions userAddressesFit answers run sound started
+unfolding areElements elementsOf fieldsOf leastFrom offsetBits offsetOf wordOf createAnswer parseAnswer answered firstNo adusPerBlock drivePlanes eachInRange planesPerBlock storeLength stretchStart wholeBlocks withinLimits closed countedDown writtenOn chosenTo newBlocks openedFor userAddress writtenByPlacement writtenInto writtenOnwards allTo numbersTo rowTo sumTo coverage createdDomain heldCount openBlockTo openCount overwritten driveAfter effect wordsFilled allAgree sameNumbers questions userAddressesFit answers run sound started
 proved-table = refl

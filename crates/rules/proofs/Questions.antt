@@ -1,10 +1,10 @@
 -- The questions of each command come in document 01's order, and where none is answered no, each is answered yes.
 use Prim.Native.Nat.{ℕ, zero, suc}
-use mathlib.Core.Bool.{Bool, true, _&&_}
+use mathlib.Core.Bool.{Bool, true}
 use mathlib.Core.List.{List, [], _∷_}
 use mathlib.Core.Path.{_≡_, refl}
 use native.Mathlib.Omega.{arith}
-use lib.Dec.{leb, ltb}
+use lib.Dec.{ltb}
 use lib.ListN.{getD}
 use borrow.Author.Tests.{lt-ltb, ltb-true}
 use Rattle.geometry.proofs.Laws.Questions.{all-yes, positive}
@@ -13,14 +13,10 @@ use Rattle.geometry.specs.Questions.{Question, ask, firstNo}
 use Rattle.model.specs.declared.command.Command.{Command}
 use Rattle.model.specs.declared.command.Command.the-variants.{ChangeCapacity, Close, Create, Delete, Erase, Free, List as Listing, Page, Pulse, Read}
 use Rattle.model.specs.declared.command.Command.the-variants.{WriteByBlock, WriteByPlacement}
+use Rattle.rules.specs.Claims.{rising}
 use Rattle.rules.specs.Drive.{Drive}
 use Rattle.rules.specs.Effects.{verdict}
 use Rattle.rules.specs.Questions.{Lengths, questions}
-
--- Their numbers rise, from above the last one to at most 16.
-unfoldable pub rising : ℕ → List Question → Bool
-rising last [] = leb last 16
-rising last (q ∷ qs) = ltb last (q .number) && rising (q .number) qs
 
 -- Soundness is the first question of every command, and the numbers of the others rise from there.
 pub in-order : (v : Drive) (lent : Lengths) (c : Command) → rising 1 (questions v lent c) ≡ true

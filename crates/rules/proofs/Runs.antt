@@ -1,12 +1,11 @@
 -- Each block goes from state to state only by the changes of a block's record, none of them but opening winds a countdown up
 -- again, and a command leaves every other domain's record alone.
-use Prim.Native.Nat.{ℕ, zero, suc, _≤_, _<_}
-use mathlib.Core.Bool.{Bool, true, false}
+use Prim.Native.Nat.{ℕ, zero, suc, _<_}
+use mathlib.Core.Bool.{Bool, true}
 use mathlib.Core.List.{List, [], _∷_, _++_}
 use mathlib.Core.Option.{Option, none, some}
 use mathlib.Core.Path.{_≡_, refl, sym, _∙_}
 use native.Mathlib.Omega.{arith}
-use lib.Dec.{eqb}
 use lib.ListN.{drop, length, take}
 use borrow.Author.Tests.{eqb-true}
 use Rattle.geometry.proofs.Laws.Questions.{all-yes}
@@ -14,7 +13,6 @@ use Rattle.geometry.proofs.Laws.Shape.{by-test, is-between}
 use Rattle.geometry.specs.Address.{isDomainId}
 use Rattle.geometry.specs.Questions.{Question, ask, firstNo}
 use Rattle.geometry.specs.Shape.{adus, adusPerBlock}
-use Rattle.model.proofs.Laws.{not-erased-not-rewound}
 use Rattle.model.specs.Blocks.{Change, changed, changedBy, closing, counting, freeing, opening, writing}
 use Rattle.model.specs.declared.block.Block.{Block}
 use Rattle.model.specs.declared.block.Way.{Way}
@@ -24,17 +22,14 @@ use Rattle.model.specs.declared.command.Command.the-variants.{ChangeCapacity, C
 use Rattle.model.specs.declared.command.Command.the-variants.{WriteByBlock, WriteByPlacement}
 use Rattle.model.specs.declared.table.Domain.{Domain}
 use Rattle.model.specs.declared.table.Table.{Table}
-use Rattle.rules.specs.Blocks.{chosenBlock, closedAt, erasedBlock, freedAt, nextSerial, newBlocks, openedFor, pulsed, room, userAddresses, writtenByPlacement, writtenFirst, writtenInto, writtenNext, writtenOnwards}
+use Rattle.rules.specs.Blocks.{chosenBlock, erasedBlock, nextSerial, newBlocks, openedFor, room, userAddresses, writtenByPlacement, writtenFirst, writtenInto, writtenNext, writtenOnwards}
+use Rattle.rules.specs.Claims.{Reached}
 use Rattle.rules.specs.Domains.{deletedDomain}
 use Rattle.rules.specs.Drive.{Drive, blockAt, capacity, domainAt, heldBy, openBlock, withBlock, withDomain, withEachBlock}
 use Rattle.rules.specs.Effects.{accepted, driveAfter, effect, erasing, verdict}
 use Rattle.rules.specs.Questions.{Lengths, questions}
-use Rattle.rules.specs.Runs.{Call, ownDomain}
+use Rattle.rules.specs.Runs.{ownDomain}
 use Rattle.rules.proofs.Drive.{block-changed, block-set, domain-other}
-
--- A record that is reached from another by such changes.
-abbrev pub Reached : Block → Block → Type 0
-Reached b after = (xs : List Change) × (after ≡ changedBy xs b)
 
 several : (xs ys : List Change) (b : Block) → changedBy (xs ++ ys) b ≡ changedBy ys (changedBy xs b)
 unfolding changedBy
@@ -60,9 +55,9 @@ same d t = record { reached = λ m. stay (blockAt t m); others = λ e p ne. refl
 then : {d : ℕ} {t u w : Table} → Follows d t u → Follows d u w → Follows d t w
 then {t = t} f g = record {
   reached = λ m.
-    let a = f .reached m in
-    let b = g .reached m in
-    (a .0 ++ b .0, b .1 ∙ (rw (a .1) (sym (several (a .0) (b .0) (blockAt t m)))));
+      let a = f .reached m in
+      let b = g .reached m in
+      (a .0 ++ b .0, b .1 ∙ (rw (a .1) (sym (several (a .0) (b .0) (blockAt t m)))));
   others = λ e p ne. g .others e p ne ∙ f .others e p ne;
 }
 

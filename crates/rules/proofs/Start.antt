@@ -1,18 +1,17 @@
 -- The table of zeros is never sound, and a started one is.
 use Prim.Native.Nat.{ℕ, _+_, _-_, _<_}
 use mathlib.Core.Bool.{Bool, true, false, _&&_}
-use mathlib.Core.Path.{_≡_, refl, sym}
+use mathlib.Core.Path.{_≡_, refl}
 use native.Mathlib.Omega.{arith}
-use lib.Dec.{eqb, leb}
+use lib.Dec.{eqb}
 use borrow.Author.Tests.{le-leb, ne-eqb}
-use Rattle.geometry.specs.Shape.{adusPerBlock, eachInRange, planesPerBlock, withinLimits}
+use Rattle.geometry.specs.Shape.{eachInRange, withinLimits}
 use Rattle.geometry.specs.declared.shape.Config.{Config}
 use Rattle.geometry.proofs.Laws.Shape.{by-test}
 use Rattle.model.specs.declared.block.Block.{Block}
-use Rattle.rules.specs.Counting.{allTo}
 use Rattle.rules.specs.Domains.{covered, coverage, reservedBy}
-use Rattle.rules.specs.Drive.{blockAt, clearBlock, clearDomain, domainAt, eachBlock, eachDomain, held, heldBy, openCount, openOf}
-use Rattle.rules.specs.Soundness.{sound, quotaKept, openLimitKept, eachPair, serialsDiffer, serialGiven, holderExists, placementExists, placementsDiffer, countsKept, freeIsClear, missingIsClear}
+use Rattle.rules.specs.Drive.{blockAt, clearBlock, clearDomain, domainAt, eachBlock, eachDomain, heldCount, openCount}
+use Rattle.rules.specs.Soundness.{sound, quotaKept, openLimitKept, eachPair, serialsDiffer, serialGiven, holderExists, placementExists, placementsDiffer, freeIsClear, missingIsClear}
 use Rattle.rules.specs.Start.{emptyTable, started, tableOfZeros}
 use Rattle.rules.proofs.Counting.{each-all, sum-zero}
 use Rattle.rules.proofs.Drive.{get-replicate}
@@ -32,8 +31,8 @@ clear-block c n = get-replicate 256 n clearBlock
 clear-domain : (c : Config) (d : ℕ) → domainAt (emptyTable c) d ≡ clearDomain
 clear-domain c d = get-replicate 16 (d - 1) clearDomain
 
-none-held : (c : Config) (d : ℕ) → 0 < d → held (emptyTable c) d ≡ 0
-unfolding held
+none-held : (c : Config) (d : ℕ) → 0 < d → heldCount (emptyTable c) d ≡ 0
+unfolding heldCount
 none-held c d p = sum-zero (c .blocks) _ (λ n l. rw (clear-block c n, ne-eqb 0 d (λ e. omega arith)))
 
 none-open : (c : Config) (d : ℕ) → openCount (emptyTable c) d ≡ 0
@@ -54,12 +53,12 @@ domains-pass p h = each-all 16 _ (λ i l. h (i + 1) (omega arith))
 quota-kept : (c : Config) (d : ℕ) → 0 < d → quotaKept (emptyTable c) d ≡ true
 quota-kept c d p = rw (clear-domain c d, none-held c d p, le-leb 0 (c .blocks) (omega arith))
 
-no-coverage : (c : Config) → coverage (reservedBy (emptyTable c)) (held (emptyTable c)) ≡ 0
+no-coverage : (c : Config) → coverage (reservedBy (emptyTable c)) (heldCount (emptyTable c)) ≡ 0
 unfolding coverage
 no-coverage c =
     sum-zero 16 _ (λ i l.
-      let none : reservedBy (emptyTable c) (i + 1) ≡ 0 = rw (reservedBy, clear-domain c (i + 1)) in
-      omega (arith, none, none-held c (i + 1) (omega arith)))
+    let none : reservedBy (emptyTable c) (i + 1) ≡ 0 = rw (reservedBy, clear-domain c (i + 1)) in
+    omega (arith, none, none-held c (i + 1) (omega arith)))
 
 is-covered : (c : Config) → covered (emptyTable c) ≡ true
 is-covered c = rw (no-coverage c) (le-leb 0 (c .blocks) (omega arith))
@@ -71,17 +70,17 @@ pub empty-sound : (c : Config) → withinLimits c ≡ true → sound (emptyTable
 unfolding sound
 empty-sound c e =
     joined (joined (joined (joined (joined (joined (joined (joined (joined (joined (joined e
-      (domains-pass (quotaKept (emptyTable c)) (quota-kept c)))
-      (is-covered c))
-      (domains-pass (openLimitKept (emptyTable c)) (λ d p. rw (clear-domain c d))))
-      (pairs-pass c serialsDiffer refl))
-      (blocks-pass c (serialGiven (emptyTable c)) refl))
-      (blocks-pass c (holderExists (emptyTable c)) refl))
-      (blocks-pass c (placementExists (emptyTable c)) refl))
-      (pairs-pass c placementsDiffer refl))
-      (each-all (c .blocks) _ (λ n l. rw (clear-block c n))))
-      (blocks-pass c freeIsClear refl))
-      (domains-pass (λ d. missingIsClear (domainAt (emptyTable c) d)) (λ d p. rw (clear-domain c d)))
+    (domains-pass (quotaKept (emptyTable c)) (quota-kept c)))
+    (is-covered c))
+    (domains-pass (openLimitKept (emptyTable c)) (λ d p. rw (clear-domain c d))))
+    (pairs-pass c serialsDiffer refl))
+    (blocks-pass c (serialGiven (emptyTable c)) refl))
+    (blocks-pass c (holderExists (emptyTable c)) refl))
+    (blocks-pass c (placementExists (emptyTable c)) refl))
+    (pairs-pass c placementsDiffer refl))
+    (each-all (c .blocks) _ (λ n l. rw (clear-block c n))))
+    (blocks-pass c freeIsClear refl))
+    (domains-pass (λ d. missingIsClear (domainAt (emptyTable c) d)) (λ d p. rw (clear-domain c d)))
 
 pub started-sound : (c : Config) → withinLimits c ≡ true → sound (started c .table) ≡ true
 unfolding started

@@ -68,32 +68,15 @@ anyBlock = 4294967295
 abbrev pub erasedBlock : Table → ℕ → Option ℕ
 erasedBlock t n = cond (eqb n anyBlock) (chosenBlock t) (some n)
 
--- ---- Closing, freeing and counting down
+-- ---- Closing and freeing
 
+-- Close makes an open block Closed; on a Closed one it changes nothing.
 abbrev pub closedAt : ℕ → Table → Table
 closedAt n t = withBlock n (closed (blockAt t n)) t
 
+-- Free makes a held block Free; the store keeps its entries.
 abbrev pub freedAt : ℕ → Table → Table
 freedAt n t = withBlock n (freed (blockAt t n)) t
-
-abbrev pub pulsed : ℕ → Table → Table
-pulsed seconds t = withEachBlock (countedDown seconds) t
-
--- ---- User addresses
-
--- A user address has an LBA in its low 40 bits and meta in its high 24 (003, 14.17).
-abbrev pub lba : ℕ → ℕ
-lba u = u % 2 ^ 40
-
-abbrev pub meta : ℕ → ℕ
-meta u = u / 2 ^ 40
-
--- ADU i carries LBA + i and the same meta; a start of all ones puts all ones on every ADU.
-unfoldable pub userAddress : ℕ → ℕ → ℕ
-userAddress start i = cond (eqb start allOnes) allOnes (meta start * 2 ^ 40 + (lba start + i))
-
-abbrev pub userAddresses : ℕ → ℕ → List ℕ
-userAddresses start count = rowTo (userAddress start) count
 
 -- ---- Writing
 
@@ -106,6 +89,7 @@ abbrev pub flashAddress : Table → ℕ → ℕ → ℕ → ℕ
 flashAddress t d n offset = wordOf (t .config) (record { domain = d; block = n; offset = adus offset })
 
 -- User addresses go into block n of the domain d, from its first unwritten ADU on; a full block is Closed at its last ADU.
+-- Write by block does no more than this.
 unfoldable pub writtenInto : ℕ → ℕ → List ℕ → Drive → Written
 writtenInto d n users v =
     let t = v .table in
@@ -157,6 +141,22 @@ writtenByPlacement d p users v =
     let rest = writtenOnwards d p (newBlocks t d p (length users)) (drop (room t d p) users) (first .drive) in
     record { drive = rest .drive; addresses = first .addresses ++ rest .addresses }
 
+-- ---- User addresses
+
+-- A user address has an LBA in its low 40 bits and meta in its high 24 (003, 14.17).
+abbrev pub lba : ℕ → ℕ
+lba u = u % 2 ^ 40
+
+abbrev pub meta : ℕ → ℕ
+meta u = u / 2 ^ 40
+
+-- ADU i carries LBA + i and the same meta; a start of all ones puts all ones on every ADU.
+unfoldable pub userAddress : ℕ → ℕ → ℕ
+userAddress start i = cond (eqb start allOnes) allOnes (meta start * 2 ^ 40 + (lba start + i))
+
+abbrev pub userAddresses : ℕ → ℕ → List ℕ
+userAddresses start count = rowTo (userAddress start) count
+
 -- ---- Reading
 
 -- The stored user addresses from a flash address on.
@@ -167,3 +167,9 @@ stored v a count = take count (drop (stretchStart (v .table .config) (a .block) 
 unfoldable pub matches : ℕ → List ℕ → Bool
 matches expected entries =
     eqb expected allOnes || allTo (λ i. eqb (getD entries i 0) (userAddress expected i)) (length entries)
+
+-- ---- Counting down
+
+-- A pulse changes the record of each open block and no other record.
+abbrev pub pulsed : ℕ → Table → Table
+pulsed seconds t = withEachBlock (countedDown seconds) t

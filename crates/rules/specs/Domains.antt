@@ -1,5 +1,5 @@
 -- Document 01, "Domains": what Create, Change Capacity and Delete make of a domain, and the coverage rule.
-use Prim.Native.Nat.{ℕ, _+_, _*_, max}
+use Prim.Native.Nat.{ℕ, _+_, max}
 use mathlib.Core.Bool.{Bool, true, cond}
 use lib.Dec.{eqb, leb, ltb}
 use Rattle.geometry.specs.Shape.{drivePlanes, wholeBlocks}
@@ -10,7 +10,7 @@ use Rattle.model.specs.declared.block.Block.{Block}
 use Rattle.model.specs.declared.table.Domain.{Domain}
 use Rattle.model.specs.declared.table.Table.{Table}
 use Rattle.rules.specs.Counting.{sumTo}
-use Rattle.rules.specs.Drive.{clearDomain, domainAt, held, heldBy, size, withDomain, withEachBlock}
+use Rattle.rules.specs.Drive.{clearDomain, domainAt, heldCount, heldBy, size, withDomain, withEachBlock}
 
 -- A plane count is 0 to S × W.
 abbrev pub isPlaneCount : Config → Planes → Bool
@@ -43,7 +43,7 @@ changedDomain t d guarantee quota =
     record {
       exists = present .exists;
       reserved = reserved;
-      quota = max (newBlockCount (t .config) quota (present .quota)) (max reserved (held t d));
+      quota = max (newBlockCount (t .config) quota (present .quota)) (max reserved (heldCount t d));
       placements = present .placements;
       limit = present .limit;
       last = present .last;
@@ -65,7 +65,7 @@ reservedBy t d = domainAt t d .reserved
 
 -- Coverage rule: that sum is at most S.
 abbrev pub covered : Table → Bool
-covered t = leb (coverage (reservedBy t) (held t)) (size t)
+covered t = leb (coverage (reservedBy t) (heldCount t)) (size t)
 
 -- The rule as it would be with these two numbers for the domain d.
 abbrev pub instead : ℕ → ℕ → (ℕ → ℕ) → ℕ → ℕ
@@ -73,4 +73,4 @@ instead d new old e = cond (eqb e d) new (old e)
 
 abbrev pub coveredWith : Table → ℕ → ℕ → ℕ → Bool
 coveredWith t d reserved blocks =
-    leb (coverage (instead d reserved (reservedBy t)) (instead d blocks (held t))) (size t)
+    leb (coverage (instead d reserved (reservedBy t)) (instead d blocks (heldCount t))) (size t)

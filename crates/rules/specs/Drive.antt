@@ -1,6 +1,6 @@
 -- The drive that the rules speak of, its table and its store, and how blocks and domains are found, counted and replaced in it.
 use Prim.Native.Nat.{ℕ, zero, suc, _+_, _-_}
-use mathlib.Core.Bool.{Bool, true, false, not, _&&_, cond}
+use mathlib.Core.Bool.{Bool, true, false, _&&_, cond}
 use mathlib.Core.List.{List, _++_, map}
 use mathlib.Core.Option.{Option, none, some}
 use lib.Dec.{eqb}
@@ -73,11 +73,11 @@ isErasedState (Open (Placement p)) = false
 isErasedState (Closed way) = false
 
 -- Open for Nameless Write, for the placement p.
-abbrev pub isWrittenState : ℕ → State → Bool
-isWrittenState p Free = false
-isWrittenState p (Open Erase) = false
-isWrittenState p (Open (Placement q)) = eqb q p
-isWrittenState p (Closed way) = false
+abbrev pub isPlacedState : ℕ → State → Bool
+isPlacedState p Free = false
+isPlacedState p (Open Erase) = false
+isPlacedState p (Open (Placement q)) = eqb q p
+isPlacedState p (Closed way) = false
 
 abbrev pub isFree : Block → Bool
 isFree b = isFreeState (b .state)
@@ -87,6 +87,12 @@ isOpen b = isOpenState (b .state)
 
 abbrev pub isClosed : Block → Bool
 isClosed b = isClosedState (b .state)
+
+abbrev pub isOpenByErase : Block → Bool
+isOpenByErase b = isErasedState (b .state)
+
+abbrev pub isOpenFor : ℕ → Block → Bool
+isOpenFor p b = isPlacedState p (b .state)
 
 -- ---- A domain's blocks
 
@@ -100,8 +106,8 @@ abbrev pub closedOf : ℕ → Block → Bool
 closedOf d b = heldBy d b && isClosed b
 
 -- How many blocks the domain d holds, and how many of them are open and Closed.
-unfoldable pub held : Table → ℕ → ℕ
-held t d = countTo (λ n. heldBy d (blockAt t n)) (size t)
+unfoldable pub heldCount : Table → ℕ → ℕ
+heldCount t d = countTo (λ n. heldBy d (blockAt t n)) (size t)
 
 unfoldable pub openCount : Table → ℕ → ℕ
 openCount t d = countTo (λ n. openOf d (blockAt t n)) (size t)
@@ -113,7 +119,7 @@ closedCount t d = countTo (λ n. closedOf d (blockAt t n)) (size t)
 unfoldable pub openBlockTo : Table → ℕ → ℕ → ℕ → Option ℕ
 openBlockTo t d p zero = none
 openBlockTo t d p (suc n) =
-    cond (heldBy d (blockAt t n) && isWrittenState p (blockAt t n .state)) (some n) (openBlockTo t d p n)
+    cond (heldBy d (blockAt t n) && isOpenFor p (blockAt t n)) (some n) (openBlockTo t d p n)
 
 abbrev pub openBlock : Table → ℕ → ℕ → Option ℕ
 openBlock t d p = openBlockTo t d p (size t)

@@ -115,4 +115,4 @@ pub record Serves (v : Drive) (c : Command) (words bytes : List ℕ) (r : Served
   pub leaves : r .drive ≡ driveAfter v (lengthsOf v words bytes) c
   pub fills-words : r .words ≡ overwritten 0 (wordsFilled v (lengthsOf v words bytes) c) words
   pub fills-bytes :
-    (filled : List ℕ) × BytesFilled v (lengthsOf v words bytes) c filled × (r .bytes ≡ overwritten 0 filled bytes)
+      (filled : List ℕ) × BytesFilled v (lengthsOf v words bytes) c filled × (r .bytes ≡ overwritten 0 filled bytes)

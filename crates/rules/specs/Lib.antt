@@ -10,3 +10,5 @@ pub mod Questions
 pub mod Effects
 pub mod Runs
 pub mod ProvedTable
+pub mod WrongTurns
+pub mod Claims

@@ -18,9 +18,9 @@ use Rattle.model.specs.declared.table.Table.{Table}
 use Rattle.rules.specs.Counting.{numbersTo}
 use Rattle.rules.specs.Drive.{blockAt, capacity, closedCount, closedOf, isClosed, isOpen, openCount, openOf, size}
 
--- Open by erase 08h, its closed form 0Ah; by placement 04h and 06h. A Free block has no page.
+-- Open by erase 08h, its closed form 0Ah; by placement 04h and 06h. (Free is 01h in 000, but no Free block has a page.)
 abbrev pub stateByte : State → ℕ
-stateByte Free = 0
+stateByte Free = 1
 stateByte (Open Erase) = 8
 stateByte (Closed Erase) = 10
 stateByte (Open (Placement p)) = 4

@@ -107,9 +107,9 @@ p4 =
     let v = after (domain1 ∷ write 256 ∷ []) in
     row
     (numbersGot (domain1 ∷ write 256 ∷ [])
-      ++ heldIn v
-      ++ closedIn v
-      ++ (getD (wordsOf (domain1 ∷ []) (write 256)) 128 0 ∷ []))
+    ++ heldIn v
+    ++ closedIn v
+    ++ (getD (wordsOf (domain1 ∷ []) (write 256)) 128 0 ∷ []))
     (0 ∷ 0 ∷ 0 ∷ 1 ∷ 0 ∷ 1 ∷ 281474976710784 ∷ [])
 
 -- P5. Write 100, then 28: Closed, none open. Then 1: block 1.
@@ -120,9 +120,9 @@ p5 =
     let w = after (twice ++ (write 1 ∷ [])) in
     row
     (numbersGot (twice ++ (write 1 ∷ []))
-      ++ (length (openIn v) ∷ closedIn v)
-      ++ openIn w
-      ++ wordsOf twice (write 1))
+    ++ (length (openIn v) ∷ closedIn v)
+    ++ openIn w
+    ++ wordsOf twice (write 1))
     (0 ∷ 0 ∷ 0 ∷ 0 ∷ 0 ∷ 0 ∷ 1 ∷ 281474976710784 ∷ [])
 
 -- P6. Write 100, then 30: the second block has 2.
@@ -141,9 +141,9 @@ p7 =
     let end = two ++ (Pulse 1 ∷ []) in
     row
     (numbersGot end
-      ++ (leftOf (after one) 0 ∷ leftOf (after pulse) 0 ∷ leftOf (after two) 0 ∷ writtenOf (after two) 0 ∷ [])
-      ++ (length (openIn (after two)) ∷ length (openIn (after end)) ∷ closedIn (after end))
-      ++ (leftOf (after end) 0 ∷ []))
+    ++ (leftOf (after one) 0 ∷ leftOf (after pulse) 0 ∷ leftOf (after two) 0 ∷ writtenOf (after two) 0 ∷ [])
+    ++ (length (openIn (after two)) ∷ length (openIn (after end)) ∷ closedIn (after end))
+    ++ (leftOf (after end) 0 ∷ []))
     (0 ∷ 0 ∷ 0 ∷ 0 ∷ 0 ∷ 60 ∷ 1 ∷ 1 ∷ 2 ∷ 1 ∷ 0 ∷ 0 ∷ 0 ∷ [])
 
 -- P8. LBA 2^40 − 1, meta 0: one ADU passes, two get 8.

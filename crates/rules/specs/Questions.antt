@@ -15,7 +15,7 @@ use Rattle.model.specs.declared.table.Table.{Table}
 use Rattle.rules.specs.Blocks.{allOnes, anyBlock, lba, matches, newBlocks, stored, userAddress}
 use Rattle.rules.specs.Counting.{allTo, implies}
 use Rattle.rules.specs.Domains.{changedDomain, coveredWith, createdDomain, isPlaneCount}
-use Rattle.rules.specs.Drive.{Drive, blockAt, capacity, domainAt, held, heldBy, isClosed, isErasedState, isFree, openBlock, openCount}
+use Rattle.rules.specs.Drive.{Drive, blockAt, capacity, domainAt, heldCount, heldBy, isClosed, isFree, isOpenByErase, openBlock, openCount}
 use Rattle.rules.specs.LogPages.{listLength}
 use Rattle.rules.specs.Soundness.{sound}
 
@@ -53,12 +53,9 @@ isHeld t d n = heldBy d (blockAt t n)
 abbrev pub mayErase : Table → ℕ → ℕ → Bool
 mayErase t d n = eqb n anyBlock || isFree (blockAt t n) || isHeld t d n
 
--- 10. Erase: is a held block Closed? Write by block: is it Open by Erase?
+-- 10. Erase: is a held block Closed? FFFFFFFFh names none.
 abbrev pub isErasedAgain : Table → ℕ → ℕ → Bool
 isErasedAgain t d n = not (eqb n anyBlock) && isHeld t d n
-
-abbrev pub isOpenByErase : Table → ℕ → Bool
-isOpenByErase t n = isErasedState (blockAt t n .state)
 
 -- 11. If a block opens where the placement has none open, or Erase opens one: are fewer open than the limit?
 abbrev pub mayOpen : Table → ℕ → Bool
@@ -77,11 +74,11 @@ abbrev pub newOfErase : Table → ℕ → ℕ → ℕ
 newOfErase t d n = cond (isErasedAgain t d n) 0 1
 
 abbrev pub withinQuota : Table → ℕ → ℕ → Bool
-withinQuota t d new = leb (held t d + new) (domainAt t d .quota)
+withinQuota t d new = leb (heldCount t d + new) (domainAt t d .quota)
 
 -- 14. Does coverage hold afterwards?
 abbrev pub coveredAfter : Table → ℕ → ℕ → Bool
-coveredAfter t d new = coveredWith t d (domainAt t d .reserved) (held t d + new)
+coveredAfter t d new = coveredWith t d (domainAt t d .reserved) (heldCount t d + new)
 
 -- Each command's questions, in 01's order.
 unfoldable pub questions : Drive → Lengths → Command → List Question
@@ -92,12 +89,12 @@ questions v lent (Create d guarantee quota placements limit) =
     ∷ ask 4 (isDomainId d)
     ∷ ask 5 (not (exists t d))
     ∷ ask 6 (
-      isPlaneCount (t .config) guarantee
-      && isPlaneCount (t .config) quota
-      && between 1 16 placements
-      && between 0 256 limit
+    isPlaneCount (t .config) guarantee
+    && isPlaneCount (t .config) quota
+    && between 1 16 placements
+    && between 0 256 limit
     )
-    ∷ ask 14 (coveredWith t d (r .reserved) (held t d))
+    ∷ ask 14 (coveredWith t d (r .reserved) (heldCount t d))
     ∷ []
 questions v lent (ChangeCapacity d guarantee quota) =
     let t = v .table in
@@ -106,7 +103,7 @@ questions v lent (ChangeCapacity d guarantee quota) =
     ∷ ask 4 (isDomainId d)
     ∷ ask 5 (exists t d)
     ∷ ask 6 (isPlaneCount (t .config) guarantee && isPlaneCount (t .config) quota)
-    ∷ ask 14 (coveredWith t d (r .reserved) (held t d))
+    ∷ ask 14 (coveredWith t d (r .reserved) (heldCount t d))
     ∷ []
 questions v lent (Delete d) =
     let t = v .table in
@@ -169,7 +166,7 @@ questions v lent (WriteByBlock d n start count) =
     ∷ ask 7 (leb (count .0) (lent .words))
     ∷ ask 8 (userAddressesFit start (count .0))
     ∷ ask 9 (isHeld t d n)
-    ∷ ask 10 (isOpenByErase t n)
+    ∷ ask 10 (isOpenByErase (blockAt t n))
     ∷ ask 15 (leb (blockAt t n .written .0 + count .0) (capacity t n .0))
     ∷ []
 questions v lent (Read d address count expected) =

@@ -13,12 +13,12 @@ use Rattle.model.specs.declared.table.Domain.{Domain}
 use Rattle.model.specs.declared.table.Table.{Table}
 use Rattle.rules.specs.Counting.{allTo, implies}
 use Rattle.rules.specs.Domains.{covered}
-use Rattle.rules.specs.Drive.{blockAt, capacity, domainAt, eachBlock, eachDomain, held, isFree, isWrittenState, openCount, size}
+use Rattle.rules.specs.Drive.{blockAt, capacity, domainAt, eachBlock, eachDomain, heldCount, isFree, isPlacedState, openCount, size}
 
 -- reserved ≤ quota ≤ S and held ≤ quota
 abbrev pub quotaKept : Table → ℕ → Bool
 quotaKept t d =
-    let r = domainAt t d in leb (r .reserved) (r .quota) && leb (r .quota) (size t) && leb (held t d) (r .quota)
+    let r = domainAt t d in leb (r .reserved) (r .quota) && leb (r .quota) (size t) && leb (heldCount t d) (r .quota)
 
 -- placement IDs 1 to 16, open limit from that number to 256, blocks open ≤ open limit
 abbrev pub openLimitKept : Table → ℕ → Bool
@@ -64,7 +64,7 @@ placementExists t b = stateBelow (domainAt t (b .holder) .placements) (b .state)
 abbrev pub samePlacement : State → State → Bool
 samePlacement Free other = false
 samePlacement (Open Erase) other = false
-samePlacement (Open (Placement p)) other = isWrittenState p other
+samePlacement (Open (Placement p)) other = isPlacedState p other
 samePlacement (Closed way) other = false
 
 abbrev pub placementsDiffer : Block → Block → Bool

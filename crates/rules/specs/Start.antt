@@ -1,5 +1,4 @@
 -- Document 01, "The drive's fixed shape": starting.
-use Prim.Native.Nat.{ℕ}
 use mathlib.Core.Bool.{cond}
 use mathlib.Core.List.{List, [], _∷_}
 use lib.ListN.{replicate}

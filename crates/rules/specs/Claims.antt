@@ -1,0 +1,58 @@
+-- What the laws in proofs/Laws.antt say, where that takes a definition of its own.
+use Prim.Native.Nat.{ℕ, _≤_, _<_}
+use mathlib.Core.Bool.{Bool, true, _&&_, cond}
+use mathlib.Core.List.{List, [], _∷_}
+use mathlib.Core.Path.{_≡_}
+use lib.Dec.{leb, ltb}
+use lib.ListN.{drop, replicate, take}
+use Rattle.geometry.specs.Bytes.{littleEndian}
+use Rattle.geometry.specs.Questions.{Question, refusal}
+use Rattle.model.specs.Blocks.{Change, changedBy}
+use Rattle.model.specs.declared.block.Block.{Block}
+use Rattle.model.specs.declared.table.Table.{Table}
+use Rattle.rules.specs.Drive.{Drive, blockAt, capacity, isFree, isOpen}
+use Rattle.rules.specs.Effects.{Served}
+use Rattle.rules.specs.LogPages.{integrity, placementField, stateByte, wearIndex}
+
+-- Questions whose numbers rise, from above the last one to at most 16.
+unfoldable pub rising : ℕ → List Question → Bool
+rising last [] = leb last 16
+rising last (q ∷ qs) = ltb last (q .number) && rising (q .number) qs
+
+-- A refusal: a number alone, and table, store, words and bytes as they were.
+pub record Unchanged (v : Drive) (words bytes : List ℕ) (r : Served) : Type 0 where
+  pub no-values : r .answer ≡ refusal (r .answer .number)
+  pub same-drive : r .drive ≡ v
+  pub same-words : r .words ≡ words
+  pub same-bytes : r .bytes ≡ bytes
+
+-- The Free block with the least P/E count among so many, the lowest number among equals.
+pub record Chosen (t : Table) (size n : ℕ) : Type 0 where
+  pub inside : n < size
+  pub free : isFree (blockAt t n) ≡ true
+  pub least : (m : ℕ) → m < size → isFree (blockAt t m) ≡ true → blockAt t n .erases ≤ blockAt t m .erases
+  pub lowest : (m : ℕ) → m < n → isFree (blockAt t m) ≡ true → blockAt t n .erases < blockAt t m .erases
+
+-- A record that is reached from another by changes of a block's record.
+abbrev pub Reached : Block → Block → Type 0
+Reached b after = (xs : List Change) × (after ≡ changedBy xs b)
+
+-- The bytes from a place on.
+abbrev pub bytesAt : ℕ → ℕ → List ℕ → List ℕ
+bytesAt place width bytes = take width (drop place bytes)
+
+-- Super Block Information with each field where document 01 puts it.
+pub record Layout (t : Table) (n : ℕ) (bytes : List ℕ) : Type 0 where
+  pub device : bytesAt 0 2 bytes ≡ littleEndian 2 1
+  pub zero-byte : bytesAt 2 1 bytes ≡ littleEndian 1 0
+  pub state : bytesAt 3 1 bytes ≡ littleEndian 1 (stateByte (blockAt t n .state))
+  pub number : bytesAt 4 4 bytes ≡ littleEndian 4 n
+  pub placement : bytesAt 8 2 bytes ≡ littleEndian 2 (placementField (blockAt t n .state))
+  pub domain : bytesAt 10 2 bytes ≡ littleEndian 2 (blockAt t n .holder)
+  pub index : bytesAt 12 1 bytes ≡ littleEndian 1 (wearIndex (t .config) (blockAt t n .erases))
+  pub health : bytesAt 13 1 bytes ≡ littleEndian 1 (integrity (blockAt t n))
+  pub time-left : bytesAt 14 2 bytes ≡ littleEndian 2 0
+  pub all : bytesAt 16 4 bytes ≡ littleEndian 4 (capacity t n .0)
+  pub written : bytesAt 20 4 bytes ≡ littleEndian 4 (cond (isOpen (blockAt t n)) (blockAt t n .written .0) 0)
+  pub serial : bytesAt 24 4 bytes ≡ littleEndian 4 (blockAt t n .serial)
+  pub rest : drop 28 bytes ≡ replicate 228 0

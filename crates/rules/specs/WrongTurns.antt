@@ -1,0 +1,75 @@
+-- Document 01, "Where a builder goes astray": a row for each line that the table of P1 to P12 does not show already.
+use Prim.Native.Nat.{ℕ}
+use mathlib.Core.List.{List, [], _∷_, _++_}
+use Rattle.geometry.specs.Questions.{Outcome}
+use Rattle.geometry.specs.Shape.{adus, planes}
+use Rattle.model.specs.declared.command.Command.{Command}
+use Rattle.model.specs.declared.command.Command.the-variants.{Close, Create, Erase, Free, Pulse, WriteByBlock}
+use Rattle.rules.specs.Blocks.{anyBlock}
+use Rattle.rules.specs.Counting.{countTo}
+use Rattle.rules.specs.Drive.{blockAt, isFree, size}
+use Rattle.rules.specs.ProvedTable.{Row, after, calls, domain1, freshDrive, leftOf, numbersGot, row}
+use Rattle.rules.specs.Runs.{answers}
+
+-- The values that the commands of a list are answered, one after the other.
+unfoldable pub valuesOf : List Outcome → List ℕ
+valuesOf [] = []
+valuesOf (o ∷ os) = o .values ++ valuesOf os
+
+abbrev pub valuesGot : List Command → List ℕ
+valuesGot cs = valuesOf (answers (calls cs) freshDrive)
+
+-- A domain without a guarantee that may take every block.
+abbrev pub guest : ℕ → Command
+guest d = Create d (planes 0) (planes 1024) 1 256
+
+-- Seconds left stay on a write and a failed Erase, and a Close takes them away; a second Close changes nothing.
+abbrev pub keptSeconds : Row
+keptSeconds =
+    let pulse = domain1 ∷ Erase 1 anyBlock ∷ Pulse 10 ∷ [] in
+    let write = pulse ++ (WriteByBlock 1 0 0 (adus 5) ∷ []) in
+    let fail = write ++ (Erase 1 0 ∷ []) in
+    let close = fail ++ (Close 1 0 ∷ []) in
+    let again = close ++ (Close 1 0 ∷ []) in
+    row
+    (numbersGot again
+    ++ (leftOf (after pulse) 0 ∷ leftOf (after write) 0 ∷ leftOf (after fail) 0 ∷ leftOf (after close) 0 ∷ leftOf (after again) 0 ∷ []))
+    (0 ∷ 0 ∷ 0 ∷ 0 ∷ 10 ∷ 0 ∷ 0 ∷ 50 ∷ 50 ∷ 50 ∷ 0 ∷ 0 ∷ [])
+
+-- Each offset element has no bits of its own: P12.
+
+-- A guest takes the five blocks that nobody reserved and no sixth, though three are Free (P3 is the same with none to take).
+abbrev pub reservedStay : Row
+reservedStay =
+    let erase = Erase 3 anyBlock in
+    let cs = domain1 ∷ guest 3 ∷ erase ∷ erase ∷ erase ∷ erase ∷ erase ∷ erase ∷ [] in
+    let t = after cs .table in
+    row
+    (numbersGot cs ++ (countTo (λ n. isFree (blockAt t n)) (size t) ∷ []))
+    (0 ∷ 0 ∷ 0 ∷ 0 ∷ 0 ∷ 0 ∷ 0 ∷ 14 ∷ 3 ∷ [])
+
+-- A freed block is given out again, once those with fewer erases have been.
+abbrev pub eraseAndFree : ℕ → List Command
+eraseAndFree n = Erase 1 anyBlock ∷ Free 1 n ∷ []
+
+abbrev pub freedAgain : Row
+freedAgain =
+    let round =
+    eraseAndFree 0 ++ eraseAndFree 1 ++ eraseAndFree 2 ++ eraseAndFree 3
+    ++ eraseAndFree 4 ++ eraseAndFree 5 ++ eraseAndFree 6 ++ eraseAndFree 7 in
+    row
+    (valuesGot (domain1 ∷ round ++ (Erase 1 anyBlock ∷ [])))
+    (0 ∷ 0 ∷ 1 ∷ 1 ∷ 2 ∷ 2 ∷ 3 ∷ 3 ∷ 4 ∷ 4 ∷ 5 ∷ 5 ∷ 6 ∷ 6 ∷ 7 ∷ 7 ∷ 0 ∷ [])
+
+-- No spare block is opened when the last ADU exactly fills one: P4 and P5.
+
+-- Each domain counts its own serials.
+abbrev pub ownSerials : Row
+ownSerials =
+    let t = after (domain1 ∷ guest 2 ∷ Erase 1 anyBlock ∷ Erase 1 anyBlock ∷ Erase 2 anyBlock ∷ Erase 1 anyBlock ∷ []) .table in
+    row
+    (blockAt t 0 .serial ∷ blockAt t 1 .serial ∷ blockAt t 2 .serial ∷ blockAt t 3 .serial ∷ [])
+    (1 ∷ 2 ∷ 1 ∷ 3 ∷ [])
+
+abbrev pub wrongTurns : List Row
+wrongTurns = keptSeconds ∷ reservedStay ∷ freedAgain ∷ ownSerials ∷ []
