@@ -1,6 +1,6 @@
 -- Document 01, "Domains": what Create, Change Capacity and Delete make of a domain, and the coverage rule.
 use Prim.Native.Nat.{ℕ, _+_, max}
-use mathlib.Core.Bool.{Bool, true, cond}
+use mathlib.Core.Bool.{Bool, true, _&&_, cond}
 use lib.Dec.{eqb, leb, ltb}
 use Rattle.geometry.specs.Shape.{drivePlanes, wholeBlocks}
 use Rattle.geometry.specs.declared.shape.Config.{Config}
@@ -12,9 +12,9 @@ use Rattle.model.specs.declared.table.Table.{Table}
 use Rattle.rules.specs.Counting.{sumTo}
 use Rattle.rules.specs.Drive.{clearDomain, domainAt, heldCount, heldBy, size, withDomain, withEachBlock}
 
--- A plane count is 0 to S × W.
-abbrev pub isPlaneCount : Config → Planes → Bool
-isPlaneCount c n = leb (n .0) (drivePlanes c .0)
+-- Guaranteed planes and quota planes are 0 to S × W.
+abbrev pub arePlaneCounts : Config → Planes → Planes → Bool
+arePlaneCounts c guarantee quota = leb (guarantee .0) (drivePlanes c .0) && leb (quota .0) (drivePlanes c .0)
 
 -- An open limit below the number of placement IDs becomes that number plus 2 (003, 12.17).
 abbrev pub openLimit : ℕ → ℕ → ℕ

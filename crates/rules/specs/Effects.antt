@@ -26,38 +26,38 @@ pub record Effect : Type 0 where
   pub values : List ℕ
   pub words : List ℕ
 
--- The table changes and nothing else; so it does, and a block number is answered; nothing changes, and words are filled; ..
-abbrev pub changing : Table → Drive → Effect
-changing t v = record { drive = record { table = t; store = v .store }; values = []; words = [] }
+-- The table changes, and these values are answered.
+abbrev pub changing : List ℕ → Table → Drive → Effect
+changing values t v = record { drive = record { table = t; store = v .store }; values = values; words = [] }
 
-abbrev pub answering : ℕ → Table → Drive → Effect
-answering n t v = record { drive = record { table = t; store = v .store }; values = n ∷ []; words = [] }
-
+-- Nothing changes, and these words are filled.
 abbrev pub giving : List ℕ → Drive → Effect
 giving words v = record { drive = v; values = []; words = words }
 
--- .. a write gives its flash addresses; Erase opens a block and answers its number.
+-- A write fills in its flash addresses.
 abbrev pub writing : Written → Effect
 writing w = record { drive = w .drive; values = []; words = w .addresses }
 
+-- Erase opens a block and answers its number.
 abbrev pub erasing : ℕ → Option ℕ → Drive → Effect
 erasing d none v = giving [] v
 erasing d (some n) v = record { drive = openedFor d way.Erase n v; values = n ∷ []; words = [] }
 
 unfoldable pub effect : Command → Drive → Effect
 effect (Create d guarantee quota placements limit) v =
-    changing (withDomain d (createdDomain (v .table .config) guarantee quota placements limit) (v .table)) v
-effect (ChangeCapacity d guarantee quota) v = changing (withDomain d (changedDomain (v .table) d guarantee quota) (v .table)) v
-effect (Delete d) v = changing (deletedDomain d (v .table)) v
+    changing [] (withDomain d (createdDomain (v .table .config) guarantee quota placements limit) (v .table)) v
+effect (ChangeCapacity d guarantee quota) v =
+    changing [] (withDomain d (changedDomain (v .table) d guarantee quota) (v .table)) v
+effect (Delete d) v = changing [] (deletedDomain d (v .table)) v
 effect (Erase d n) v = erasing d (erasedBlock (v .table) n) v
-effect (Close d n) v = answering n (closedAt n (v .table)) v
-effect (Free d n) v = answering n (freedAt n (v .table)) v
+effect (Close d n) v = changing (n ∷ []) (closedAt n (v .table)) v
+effect (Free d n) v = changing (n ∷ []) (freedAt n (v .table)) v
 effect (WriteByPlacement d p start count) v = writing (writtenByPlacement d p (userAddresses start (count .0)) v)
 effect (WriteByBlock d n start count) v = writing (writtenInto d n (userAddresses start (count .0)) v)
 effect (Read d address count expected) v = giving (stored v (fieldsOf (v .table .config) address) (count .0)) v
 effect (Page d n) v = giving [] v
 effect (Listing d which) v = giving [] v
-effect (Pulse seconds) v = changing (pulsed seconds (v .table)) v
+effect (Pulse seconds) v = changing [] (pulsed seconds (v .table)) v
 
 -- The bytes that a command fills: Page and List alone fill any, and of the open list the order is left open.
 abbrev pub Fills : Command → Table → List ℕ → Type 0

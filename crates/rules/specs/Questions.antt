@@ -1,4 +1,5 @@
--- Document 01, "The questions, in order": what each command is asked.
+-- Document 01, "The questions, in order": what each command is asked. Question 1 is put in Start; 2 is `sound`, 4 is
+-- `isDomainId`; 7, 10, 15 and 16 stand as they are in the lists of the commands that are asked them.
 use Prim.Native.Nat.{ℕ, _+_, _-_, _^_}
 use mathlib.Core.Bool.{Bool, true, not, _&&_, _||_, cond}
 use mathlib.Core.List.{List, [], _∷_}
@@ -14,7 +15,7 @@ use Rattle.model.specs.declared.command.Command.the-variants.{WriteByBlock, Wri
 use Rattle.model.specs.declared.table.Table.{Table}
 use Rattle.rules.specs.Blocks.{allOnes, anyBlock, lba, matches, newBlocks, stored, userAddress}
 use Rattle.rules.specs.Counting.{allTo, implies}
-use Rattle.rules.specs.Domains.{changedDomain, coveredWith, createdDomain, isPlaneCount}
+use Rattle.rules.specs.Domains.{arePlaneCounts, changedDomain, coveredWith, createdDomain}
 use Rattle.rules.specs.Drive.{Drive, blockAt, capacity, domainAt, heldCount, heldBy, isClosed, isFree, isOpenByErase, openBlock, openCount}
 use Rattle.rules.specs.LogPages.{listLength}
 use Rattle.rules.specs.Soundness.{sound}
@@ -53,7 +54,7 @@ isHeld t d n = heldBy d (blockAt t n)
 abbrev pub mayErase : Table → ℕ → ℕ → Bool
 mayErase t d n = eqb n anyBlock || isFree (blockAt t n) || isHeld t d n
 
--- 10. Erase: is a held block Closed? FFFFFFFFh names none.
+-- 10, 13 and 14. Does Erase name a block that the domain holds?
 abbrev pub isErasedAgain : Table → ℕ → ℕ → Bool
 isErasedAgain t d n = not (eqb n anyBlock) && isHeld t d n
 
@@ -88,12 +89,7 @@ questions v lent (Create d guarantee quota placements limit) =
     ask 2 (sound t)
     ∷ ask 4 (isDomainId d)
     ∷ ask 5 (not (exists t d))
-    ∷ ask 6 (
-    isPlaneCount (t .config) guarantee
-    && isPlaneCount (t .config) quota
-    && between 1 16 placements
-    && between 0 256 limit
-    )
+    ∷ ask 6 (arePlaneCounts (t .config) guarantee quota && between 1 16 placements && between 0 256 limit)
     ∷ ask 14 (coveredWith t d (r .reserved) (heldCount t d))
     ∷ []
 questions v lent (ChangeCapacity d guarantee quota) =
@@ -102,7 +98,7 @@ questions v lent (ChangeCapacity d guarantee quota) =
     ask 2 (sound t)
     ∷ ask 4 (isDomainId d)
     ∷ ask 5 (exists t d)
-    ∷ ask 6 (isPlaneCount (t .config) guarantee && isPlaneCount (t .config) quota)
+    ∷ ask 6 (arePlaneCounts (t .config) guarantee quota)
     ∷ ask 14 (coveredWith t d (r .reserved) (heldCount t d))
     ∷ []
 questions v lent (Delete d) =

@@ -2,8 +2,6 @@ use borrow.Author.Needs.{needs}
 use Rattle.model.specs.Blocks.{closed}
 use Rattle.model.proofs.block.Block.closed.Statement.{statement}
 use Rattle.model.proofs.block.Block.closed.Tie as tie
-use Rattle.model.proofs.block.Block.closed.Reads as reads
-use Rattle.model.proofs.block.Block.closed.Lts as lts
 
 enum-known-state : tie.Need-enum-known-state
 enum-known-state c = search needs

@@ -3,9 +3,6 @@ use borrow.Author.Tests.{le-ltb, lt-ltb}
 use Rattle.model.specs.Blocks.{countedDown}
 use Rattle.model.proofs.block.Block.counted_down.Statement.{statement}
 use Rattle.model.proofs.block.Block.counted_down.Tie as tie
-use Rattle.model.proofs.block.Block.counted_down.Reads as reads
-use Rattle.model.proofs.block.Block.counted_down.Lts as lts
-use Rattle.model.proofs.block.Block.closed.Reads as closed-reads
 
 enum-told : tie.Need-enum-told
 enum-told c = search needs

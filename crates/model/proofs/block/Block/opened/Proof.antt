@@ -2,8 +2,6 @@ use borrow.Author.Needs.{needs}
 use borrow.Author.Tests.{le-ltb, lt-ltb}
 use Rattle.model.proofs.block.Block.opened.Statement.{statement}
 use Rattle.model.proofs.block.Block.opened.Tie as tie
-use Rattle.model.proofs.block.Block.opened.Reads as reads
-use Rattle.model.proofs.block.Block.opened.Lts as lts
 
 add-erases : tie.Need-add-erases
 add-erases c = search needs

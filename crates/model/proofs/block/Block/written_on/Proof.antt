@@ -4,10 +4,6 @@ use borrow.Author.Tests.{le-ltb, lt-ltb}
 use Rattle.model.specs.Blocks.{writtenOn}
 use Rattle.model.proofs.block.Block.written_on.Statement.{statement}
 use Rattle.model.proofs.block.Block.written_on.Tie as tie
-use Rattle.model.proofs.block.Block.written_on.Reads as reads
-use Rattle.model.proofs.block.Block.written_on.Lts as lts
-use Rattle.model.proofs.block.Block.closed.Reads as closed-reads
-use Rattle.model.proofs.block.filled_to.Reads as filled-to-reads
 
 enum-told : tie.Need-enum-told
 enum-told c = search needs
