@@ -2,12 +2,12 @@
 use Prim.Native.Nat.{ℕ, zero, suc, _+_, _≤_, _<_}
 use mathlib.Core.Bool.{Bool, true, false, _&&_, cond}
 use mathlib.Core.List.{List, [], _∷_, _++_}
-use mathlib.Core.Path.{_≡_, refl, sym, ap₂}
+use mathlib.Core.Path.{_≡_, refl, sym, ap₂, _∙_}
 use native.Mathlib.Omega.{arith}
 use lib.Dec.{eqb, ltb}
-use lib.ListN.{length, length-append}
+use lib.ListN.{getD, length, length-append, List·getD-append}
 use borrow.Author.Tests.{eq-eqb, eqb-false, eqb-true, le-ltb, lt-ltb, ltb-false, ltb-true, ne-eqb}
-use Rattle.geometry.proofs.Laws.Shape.{by-test}
+use Rattle.geometry.proofs.Laws.Shape.{both, by-test}
 use Rattle.rules.specs.Counting.{allTo, countTo, numbersTo, rowTo, sumTo}
 use Rattle.rules.specs.LogPages.{timesIn}
 
@@ -48,12 +48,32 @@ unfolding allTo
 each-all zero p h = refl
 each-all (suc n) p h = rw (each-all n p (λ i l. h i (omega arith)), h n (omega arith))
 
+pub all-each : (n : ℕ) (p : ℕ → Bool) → allTo p n ≡ true → (i : ℕ) → i < n → p i ≡ true
+unfolding allTo
+all-each zero p e i l = absurd (omega (arith, l))
+all-each (suc n) p e i l =
+    let h = both (allTo p n) (p n) e in by-eq i n (λ same. rw same (h .1)) (λ other. all-each n p (h .0) i (omega arith))
+
 -- ---- Rows
 
 pub length-row : (f : ℕ → ℕ) (n : ℕ) → length (rowTo f n) ≡ n
 unfolding rowTo
 length-row f zero = refl
 length-row f (suc n) = rw (length-append, length-row f n) (omega arith)
+
+pub get-row : (f : ℕ → ℕ) (n i : ℕ) → i < n → getD (rowTo f n) i 0 ≡ f i
+unfolding rowTo
+get-row f zero i l = absurd (omega (arith, l))
+get-row f (suc n) i l =
+    by-eq i n
+    (λ e. rw e (last (rowTo f n) (f n) n (length-row f n)))
+    (λ e. List·getD-append (rowTo f n) (f n ∷ []) 0 i (rw length-row (omega arith)) ∙ get-row f n i (omega arith))
+  where
+    last : (xs : List ℕ) (x k : ℕ) → length xs ≡ k → getD (xs ++ (x ∷ [])) k 0 ≡ x
+    last [] x zero e = refl
+    last [] x (suc k) e = absurd (omega (arith, e))
+    last (y ∷ xs) x zero e = absurd (omega (arith, e))
+    last (y ∷ xs) x (suc k) e = last xs x k (omega (arith, e))
 
 pub length-numbers : (p : ℕ → Bool) (n : ℕ) → length (numbersTo p n) ≡ countTo p n
 unfolding numbersTo sumTo

@@ -48,6 +48,11 @@ refused-unchanged v c words bytes r s not-0 =
       same-bytes = rw (filled .2, none) (overwritten-nothing bytes);
     }
 
+-- An accepted command leaves its effect.
+pub accepted-drive : (v : Drive) (lent : Lengths) (c : Command) → verdict v lent c ≡ 0 → driveAfter v lent c ≡ effect c v .drive
+unfolding driveAfter
+accepted-drive v lent c e = rw e
+
 -- Some bytes are such as a command fills: for the open list, those in ascending order.
 fill : (c : Command) (t : Table) → (bytes : List ℕ) × Fills c t bytes
 fill (Create d guarantee quota placements limit) t = ([], refl)
@@ -85,7 +90,7 @@ always-answered v c words bytes =
 
 -- ---- What is filled fits what is lent.
 
-written-length : (d n : ℕ) (users : List ℕ) (v : Drive) → length (writtenInto d n users v .addresses) ≡ length users
+pub written-length : (d n : ℕ) (users : List ℕ) (v : Drive) → length (writtenInto d n users v .addresses) ≡ length users
 unfolding writtenInto
 written-length d n users v = length-row _ (length users)
 

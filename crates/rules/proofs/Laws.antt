@@ -2,31 +2,39 @@
 -- `proved-table` in ProvedTable.antt, `no-wrong-turns` in WrongTurns.antt.
 use Prim.Native.Nat.{ℕ, _≤_, _<_}
 use mathlib.Core.Bool.{true, false}
-use mathlib.Core.List.{List}
+use mathlib.Core.List.{List, [], _∷_}
 use mathlib.Core.Option.{none, some}
 use mathlib.Core.Path.{_≡_, subst}
-use lib.ListN.{length}
-use Rattle.geometry.specs.Shape.{withinLimits}
+use lib.ListN.{getD, length}
+use Rattle.geometry.specs.Shape.{adusPerBlock, planes, withinLimits}
+use Rattle.geometry.specs.declared.address.FlashAddress.{FlashAddress}
+use Rattle.geometry.specs.declared.shape.Adus.{Adus}
 use Rattle.geometry.specs.declared.shape.Config.{Config}
+use Rattle.geometry.specs.declared.shape.Planes.{Planes}
 use Rattle.model.proofs.Laws.{not-erased-not-rewound}
+use Rattle.model.specs.Blocks.{countedDown}
 use Rattle.model.specs.declared.command.Command.{Command}
+use Rattle.model.specs.declared.command.Command.the-variants.{Delete, Erase, Pulse, Read, WriteByBlock, WriteByPlacement}
 use Rattle.model.specs.declared.command.Listed.the-variants as listed
 use Rattle.model.specs.declared.table.Table.{Table}
-use Rattle.rules.specs.Blocks.{chosenBlock}
-use Rattle.rules.specs.Claims.{Chosen, Layout, Reached, Unchanged, rising}
-use Rattle.rules.specs.Drive.{Drive, blockAt, domainAt, isFree, size}
-use Rattle.rules.specs.Effects.{BytesFilled, Served, Serves, driveAfter, wordsFilled}
+use Rattle.rules.specs.Blocks.{allOnes, chosenBlock, stored, userAddress, userAddresses}
+use Rattle.rules.specs.Claims.{Chosen, ClosedList, Found, Gone, Layout, Reached, Unchanged, rising}
+use Rattle.rules.specs.Drive.{Drive, blockAt, domainAt, heldCount, isFree, isOpen, size}
+use Rattle.rules.specs.Domains.{changedDomain}
+use Rattle.rules.specs.Effects.{BytesFilled, Served, Serves, answerTo, driveAfter, verdict, wordsFilled}
 use Rattle.rules.specs.LogPages.{OpenList, closedList, listLength, page}
 use Rattle.rules.specs.Questions.{Lengths, questions}
 use Rattle.rules.specs.Runs.{ownDomain}
 use Rattle.rules.specs.Soundness.{sound}
 use Rattle.rules.specs.Start.{started, tableOfZeros}
 use Rattle.rules.proofs.Blocks as blocks
+use Rattle.rules.proofs.Domains as domains
 use Rattle.rules.proofs.Effects as effects
 use Rattle.rules.proofs.LogPages as pages
 use Rattle.rules.proofs.Questions as asked
 use Rattle.rules.proofs.Runs as runs
 use Rattle.rules.proofs.Start as start
+use Rattle.rules.proofs.Writes as writes
 
 -- The table of zeros is never sound, so a refused start leaves a drive that answers 2 to every command; an accepted one is.
 pub zeros-unsound : sound tableOfZeros ≡ false
@@ -70,6 +78,9 @@ page-layout t n = pages.page-layout t n
 pub closed-list-length : (t : Table) (d : ℕ) → length (closedList t d) ≡ listLength t d listed.Closed
 closed-list-length t d = pages.closed-list-length t d
 
+pub closed-list : (t : Table) (d : ℕ) → ClosedList t d (closedList t d)
+closed-list t d = pages.closed-list t d
+
 pub open-list-length : (t : Table) (d : ℕ) (bytes : List ℕ) → OpenList t d bytes → length bytes ≡ listLength t d listed.Open
 open-list-length t d bytes list = pages.open-list-length t d bytes list
 
@@ -103,3 +114,63 @@ pub neighbours-unchanged : (v : Drive) (lent : Lengths) (c : Command) (d : ℕ)
     → ¬ (ownDomain c ≡ d)
     → domainAt (driveAfter v lent c .table) d ≡ domainAt (v .table) d
 neighbours-unchanged v lent c d positive other = runs.follows v lent c .others d positive other
+
+-- A pulse counts down each open block's record, and changes no other.
+pub pulse-open : (v : Drive) (lent : Lengths) (seconds n : ℕ)
+    → verdict v lent (Pulse seconds) ≡ 0
+    → n < size (v .table)
+    → blockAt (driveAfter v lent (Pulse seconds) .table) n ≡ countedDown seconds (blockAt (v .table) n)
+pulse-open v lent seconds n accepted inside = runs.pulse-open v lent seconds n accepted inside
+
+pub pulse-others : (v : Drive) (lent : Lengths) (seconds n : ℕ)
+    → isOpen (blockAt (v .table) n) ≡ false
+    → blockAt (driveAfter v lent (Pulse seconds) .table) n ≡ blockAt (v .table) n
+pulse-others v lent seconds n not-open = runs.pulse-others v lent seconds n not-open
+
+-- Change Capacity leaves no quota below the guarantee or below what is held, and two zeros change nothing.
+pub changed-order : (t : Table) (d : ℕ) (guarantee quota : Planes)
+    → let r = changedDomain t d guarantee quota in (r .reserved ≤ r .quota) × (heldCount t d ≤ r .quota)
+changed-order t d guarantee quota = domains.changed-order t d guarantee quota
+
+pub changed-by-zeros : (t : Table) (d : ℕ)
+    → domainAt t d .reserved ≤ domainAt t d .quota
+    → heldCount t d ≤ domainAt t d .quota
+    → changedDomain t d (planes 0) (planes 0) ≡ domainAt t d
+changed-by-zeros t d order held = domains.changed-by-zeros t d order held
+
+-- An accepted Delete leaves nothing of the domain and all of the others.
+pub deleted-gone : (v : Drive) (lent : Lengths) (d : ℕ)
+    → verdict v lent (Delete d) ≡ 0
+    → Gone d (v .table) (driveAfter v lent (Delete d) .table)
+deleted-gone v lent d accepted = runs.deleted-gone v lent d accepted
+
+-- An accepted Read gives the user addresses that were expected, unless all ones was, which matches anything.
+pub read-expected : (v : Drive) (lent : Lengths) (d address : ℕ) (count : Adus) (expected : ℕ)
+    → let c = Read d address count expected in
+    verdict v lent c ≡ 0
+    → ¬ (expected ≡ allOnes)
+    → (i : ℕ) → i < length (wordsFilled v lent c)
+    → getD (wordsFilled v lent c) i 0 ≡ userAddress expected i
+read-expected v lent d address count expected accepted told =
+    writes.read-expected v lent d address count expected accepted told
+
+-- In a drive whose table has an entry for each block and whose store is the one that is lent:
+module _ (v : Drive) (lent : Lengths) (whole : size (v .table) ≤ length (v .table .blocks)) (own : length (v .store) ≡ lent .store) where
+  -- Every ADU of a block that an accepted Erase answers holds all ones.
+  pub erased-all-ones : (d n m : ℕ)
+      → verdict v lent (Erase d n) ≡ 0
+      → answerTo v lent (Erase d n) .values ≡ m ∷ []
+      → (a : FlashAddress) → a .block ≡ m → a .offset .0 < adusPerBlock (v .table .config) .0
+      → stored (driveAfter v lent (Erase d n)) a 1 ≡ allOnes ∷ []
+  erased-all-ones d n m accepted answer a same inside = writes.erase-found v lent whole own d n m accepted answer a same inside
+
+  -- Each flash address that an accepted write hands back holds its user address.
+  pub written-by-placement : (d p start : ℕ) (count : Adus)
+      → let c = WriteByPlacement d p start count in
+      verdict v lent c ≡ 0 → Found (driveAfter v lent c) (wordsFilled v lent c) (userAddresses start (count .0))
+  written-by-placement d p start count accepted = writes.placement-found v lent whole own d p start count accepted
+
+  pub written-by-block : (d n start : ℕ) (count : Adus)
+      → let c = WriteByBlock d n start count in
+      verdict v lent c ≡ 0 → Found (driveAfter v lent c) (wordsFilled v lent c) (userAddresses start (count .0))
+  written-by-block d n start count accepted = writes.block-found v lent whole own d n start count accepted

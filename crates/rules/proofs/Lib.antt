@@ -1,7 +1,11 @@
 pub mod Counting
 pub mod Drive
+pub mod Store
+pub mod Domains
+pub mod Soundness
 pub mod Start
 pub mod Blocks
+pub mod Writes
 pub mod LogPages
 pub mod Questions
 pub mod Effects

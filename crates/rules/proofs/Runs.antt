@@ -1,7 +1,7 @@
 -- Each block goes from state to state only by the changes of a block's record, none of them but opening winds a countdown up
 -- again, and a command leaves every other domain's record alone.
 use Prim.Native.Nat.{ℕ, zero, suc, _<_}
-use mathlib.Core.Bool.{Bool, true}
+use mathlib.Core.Bool.{Bool, true, false, true≢false}
 use mathlib.Core.List.{List, [], _∷_, _++_}
 use mathlib.Core.Option.{Option, none, some}
 use mathlib.Core.Path.{_≡_, refl, sym, _∙_}
@@ -13,8 +13,10 @@ use Rattle.geometry.proofs.Laws.Shape.{by-test, is-between}
 use Rattle.geometry.specs.Address.{isDomainId}
 use Rattle.geometry.specs.Questions.{Question, ask, firstNo}
 use Rattle.geometry.specs.Shape.{adus, adusPerBlock}
-use Rattle.model.specs.Blocks.{Change, changed, changedBy, closing, counting, freeing, opening, writing}
+use Rattle.model.specs.Blocks.{Change, changed, changedBy, countedDown, countedFrom, closing, counting, freeing, opening, writing}
 use Rattle.model.specs.declared.block.Block.{Block}
+use Rattle.model.specs.declared.block.State.{State}
+use Rattle.model.specs.declared.block.State.the-variants as state
 use Rattle.model.specs.declared.block.Way.{Way}
 use Rattle.model.specs.declared.block.Way.the-variants.{Placement}
 use Rattle.model.specs.declared.command.Command.{Command}
@@ -23,13 +25,15 @@ use Rattle.model.specs.declared.command.Command.the-variants.{WriteByBlock, Wri
 use Rattle.model.specs.declared.table.Domain.{Domain}
 use Rattle.model.specs.declared.table.Table.{Table}
 use Rattle.rules.specs.Blocks.{chosenBlock, erasedBlock, nextSerial, newBlocks, openedFor, room, userAddresses, writtenByPlacement, writtenFirst, writtenInto, writtenNext, writtenOnwards}
-use Rattle.rules.specs.Claims.{Reached}
+use Rattle.rules.specs.Claims.{Gone, Reached}
 use Rattle.rules.specs.Domains.{deletedDomain}
-use Rattle.rules.specs.Drive.{Drive, blockAt, capacity, domainAt, heldBy, openBlock, withBlock, withDomain, withEachBlock}
+use Rattle.rules.specs.Drive.{Drive, blockAt, capacity, domainAt, heldBy, isOpen, isOpenState, openBlock, size, withBlock, withDomain, withEachBlock}
 use Rattle.rules.specs.Effects.{accepted, driveAfter, effect, erasing, verdict}
 use Rattle.rules.specs.Questions.{Lengths, questions}
 use Rattle.rules.specs.Runs.{ownDomain}
-use Rattle.rules.proofs.Drive.{block-changed, block-set, domain-other}
+use Rattle.rules.proofs.Domains.{deleted-clear, deleted-holds-nothing, deleted-others}
+use Rattle.rules.proofs.Drive.{block-changed, block-changed-below, block-set, domain-other}
+use Rattle.rules.proofs.Effects.{accepted-drive}
 
 several : (xs ys : List Change) (b : Block) → changedBy (xs ++ ys) b ≡ changedBy ys (changedBy xs b)
 unfolding changedBy
@@ -170,3 +174,39 @@ follows v lent c =
     by-test (accepted v lent c)
     (λ e. rw e (effect-follows v lent c (eqb-true (verdict v lent c) 0 e)))
     (λ e. rw e (same (ownDomain c) (v .table)))
+
+-- ---- What Pulse and Delete leave of the blocks
+
+counted-others : (s : State) (seconds : ℕ) (b : Block) → isOpenState s ≡ false → countedFrom s seconds b ≡ b
+counted-others state.Free seconds b e = refl
+counted-others (state.Closed way) seconds b e = refl
+counted-others (state.Open way) seconds b e = absurd (true≢false e)
+
+-- A pulse counts down the record of each open block and changes no other record.
+pub pulse-open : (v : Drive) (lent : Lengths) (seconds n : ℕ) → verdict v lent (Pulse seconds) ≡ 0 → n < size (v .table)
+    → blockAt (driveAfter v lent (Pulse seconds) .table) n ≡ countedDown seconds (blockAt (v .table) n)
+unfolding effect countedDown
+pulse-open v lent seconds n e l =
+    rw (accepted-drive v lent (Pulse seconds) e) (block-changed-below (countedDown seconds) (v .table) n refl l)
+
+pub pulse-others : (v : Drive) (lent : Lengths) (seconds n : ℕ) → isOpen (blockAt (v .table) n) ≡ false
+    → blockAt (driveAfter v lent (Pulse seconds) .table) n ≡ blockAt (v .table) n
+unfolding effect countedDown driveAfter
+pulse-others v lent seconds n e =
+    let b = blockAt (v .table) n in
+    by-test (accepted v lent (Pulse seconds))
+    (λ q. rw q (block-changed (λ x. x ≡ b) (countedDown seconds) (v .table) n refl (counted-others (b .state) seconds b e)))
+    (λ q. rw q)
+
+pub deleted-gone : (v : Drive) (lent : Lengths) (d : ℕ) → verdict v lent (Delete d) ≡ 0
+    → Gone d (v .table) (driveAfter v lent (Delete d) .table)
+unfolding effect questions
+deleted-gone v lent d e =
+    let t = v .table in
+    let p = second _ d _ e in
+    rw (accepted-drive v lent (Delete d) e)
+    (record {
+      clear = deleted-clear t d;
+      holds-nothing = λ n l. deleted-holds-nothing t d n p l;
+      others = λ n other. deleted-others t d n other;
+    })

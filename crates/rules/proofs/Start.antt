@@ -1,6 +1,6 @@
 -- The table of zeros is never sound, and a started one is.
 use Prim.Native.Nat.{ℕ, _+_, _-_, _<_}
-use mathlib.Core.Bool.{Bool, true, false, _&&_}
+use mathlib.Core.Bool.{Bool, true, false}
 use mathlib.Core.Path.{_≡_, refl}
 use native.Mathlib.Omega.{arith}
 use lib.Dec.{eqb}
@@ -15,6 +15,7 @@ use Rattle.rules.specs.Soundness.{sound, quotaKept, openLimitKept, eachP
 use Rattle.rules.specs.Start.{emptyTable, started, tableOfZeros}
 use Rattle.rules.proofs.Counting.{each-all, sum-zero}
 use Rattle.rules.proofs.Drive.{get-replicate}
+use Rattle.rules.proofs.Soundness.{together}
 
 pub zeros-unsound : sound tableOfZeros ≡ false
 unfolding sound withinLimits eachInRange
@@ -63,24 +64,22 @@ no-coverage c =
 is-covered : (c : Config) → covered (emptyTable c) ≡ true
 is-covered c = rw (no-coverage c) (le-leb 0 (c .blocks) (omega arith))
 
-joined : {a b : Bool} → a ≡ true → b ≡ true → a && b ≡ true
-joined e f = rw (e, f)
-
-pub empty-sound : (c : Config) → withinLimits c ≡ true → sound (emptyTable c) ≡ true
-unfolding sound
+empty-sound : (c : Config) → withinLimits c ≡ true → sound (emptyTable c) ≡ true
 empty-sound c e =
-    joined (joined (joined (joined (joined (joined (joined (joined (joined (joined (joined e
-    (domains-pass (quotaKept (emptyTable c)) (quota-kept c)))
-    (is-covered c))
-    (domains-pass (openLimitKept (emptyTable c)) (λ d p. rw (clear-domain c d))))
-    (pairs-pass c serialsDiffer refl))
-    (blocks-pass c (serialGiven (emptyTable c)) refl))
-    (blocks-pass c (holderExists (emptyTable c)) refl))
-    (blocks-pass c (placementExists (emptyTable c)) refl))
-    (pairs-pass c placementsDiffer refl))
-    (each-all (c .blocks) _ (λ n l. rw (clear-block c n))))
-    (blocks-pass c freeIsClear refl))
-    (domains-pass (λ d. missingIsClear (domainAt (emptyTable c) d)) (λ d p. rw (clear-domain c d)))
+    together (emptyTable c) (record {
+      limits = e;
+      quotas = domains-pass (quotaKept (emptyTable c)) (quota-kept c);
+      coverage = is-covered c;
+      open-limits = domains-pass (openLimitKept (emptyTable c)) (λ d p. rw (clear-domain c d));
+      serials-differ = pairs-pass c serialsDiffer refl;
+      serials-given = blocks-pass c (serialGiven (emptyTable c)) refl;
+      holders = blocks-pass c (holderExists (emptyTable c)) refl;
+      placements = blocks-pass c (placementExists (emptyTable c)) refl;
+      placements-differ = pairs-pass c placementsDiffer refl;
+      counts = each-all (c .blocks) _ (λ n l. rw (clear-block c n));
+      free-clear = blocks-pass c freeIsClear refl;
+      missing-clear = domains-pass (λ d. missingIsClear (domainAt (emptyTable c) d)) (λ d p. rw (clear-domain c d));
+    })
 
 pub started-sound : (c : Config) → withinLimits c ≡ true → sound (started c .table) ≡ true
 unfolding started

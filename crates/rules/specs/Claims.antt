@@ -1,18 +1,20 @@
 -- What the laws in proofs/Laws.antt say, where that takes a definition of its own.
-use Prim.Native.Nat.{ℕ, _≤_, _<_}
-use mathlib.Core.Bool.{Bool, true, _&&_, cond}
+use Prim.Native.Nat.{ℕ, _+_, _≤_, _<_}
+use mathlib.Core.Bool.{Bool, true, false, _&&_, cond}
 use mathlib.Core.List.{List, [], _∷_}
 use mathlib.Core.Path.{_≡_}
 use lib.Dec.{leb, ltb}
-use lib.ListN.{drop, replicate, take}
+use lib.ListN.{drop, getD, length, replicate, take}
+use Rattle.geometry.specs.Address.{fieldsOf}
 use Rattle.geometry.specs.Bytes.{littleEndian}
 use Rattle.geometry.specs.Questions.{Question, refusal}
 use Rattle.model.specs.Blocks.{Change, changedBy}
 use Rattle.model.specs.declared.block.Block.{Block}
 use Rattle.model.specs.declared.table.Table.{Table}
-use Rattle.rules.specs.Drive.{Drive, blockAt, capacity, isFree, isOpen}
+use Rattle.rules.specs.Blocks.{stored}
+use Rattle.rules.specs.Drive.{Drive, blockAt, capacity, clearDomain, closedOf, domainAt, heldBy, isFree, isOpen, size}
 use Rattle.rules.specs.Effects.{Served}
-use Rattle.rules.specs.LogPages.{integrity, placementField, stateByte, wearIndex}
+use Rattle.rules.specs.LogPages.{integrity, listOf, placementField, stateByte, timesIn, wearIndex}
 
 -- Questions whose numbers rise, from above the last one to at most 16.
 unfoldable pub rising : ℕ → List Question → Bool
@@ -27,15 +29,38 @@ pub record Unchanged (v : Drive) (words bytes : List ℕ) (r : Served) : Type 0 
   pub same-bytes : r .bytes ≡ bytes
 
 -- The Free block with the least P/E count among so many, the lowest number among equals.
-pub record Chosen (t : Table) (size n : ℕ) : Type 0 where
-  pub inside : n < size
+pub record Chosen (t : Table) (among n : ℕ) : Type 0 where
+  pub inside : n < among
   pub free : isFree (blockAt t n) ≡ true
-  pub least : (m : ℕ) → m < size → isFree (blockAt t m) ≡ true → blockAt t n .erases ≤ blockAt t m .erases
+  pub least : (m : ℕ) → m < among → isFree (blockAt t m) ≡ true → blockAt t n .erases ≤ blockAt t m .erases
   pub lowest : (m : ℕ) → m < n → isFree (blockAt t m) ≡ true → blockAt t n .erases < blockAt t m .erases
+
+-- Each of these flash addresses holds its user address: what is stored there, one ADU long, is that.
+abbrev pub Found : Drive → List ℕ → List ℕ → Type 0
+Found v addresses users =
+    (i : ℕ) → i < length addresses → stored v (fieldsOf (v .table .config) (getD addresses i 0)) 1 ≡ getD users i 0 ∷ []
 
 -- A record that is reached from another by changes of a block's record.
 abbrev pub Reached : Block → Block → Type 0
 Reached b after = (xs : List Change) × (after ≡ changedBy xs b)
+
+-- A domain that is gone: its record is clear, it holds no block, and the blocks of the others are as they were.
+pub record Gone (d : ℕ) (t u : Table) : Type 0 where
+  pub clear : domainAt u d ≡ clearDomain
+  pub holds-nothing : (n : ℕ) → n < size t → heldBy d (blockAt u n) ≡ false
+  pub others : (n : ℕ) → heldBy d (blockAt t n) ≡ false → blockAt u n ≡ blockAt t n
+
+-- Block numbers that rise, from the first one on.
+unfoldable pub ascending : ℕ → List ℕ → Bool
+ascending first [] = true
+ascending first (n ∷ ns) = leb first n && ascending (n + 1) ns
+
+-- A list of the domain's Closed blocks: each stands there once and nothing else does, in ascending number.
+pub record ClosedList (t : Table) (d : ℕ) (bytes : List ℕ) : Type 0 where
+  pub order : List ℕ
+  pub each-once : (n : ℕ) → timesIn n order ≡ cond (ltb n (size t) && closedOf d (blockAt t n)) 1 0
+  pub rises : ascending 0 order ≡ true
+  pub descriptors : bytes ≡ listOf t integrity order
 
 -- The bytes from a place on.
 abbrev pub bytesAt : ℕ → ℕ → List ℕ → List ℕ
