@@ -34,7 +34,7 @@ use Rattle.rules.proofs.LogPages as pages
 use Rattle.rules.proofs.Questions as asked
 use Rattle.rules.proofs.Runs as runs
 use Rattle.rules.proofs.Start as start
-use Rattle.rules.proofs.Writes as writes
+use Rattle.rules.proofs.Found as found
 
 -- The table of zeros is never sound, so a refused start leaves a drive that answers 2 to every command; an accepted one is.
 pub zeros-unsound : sound tableOfZeros ≡ false
@@ -152,7 +152,7 @@ pub read-expected : (v : Drive) (lent : Lengths) (d address : ℕ) (count : Adus
     → (i : ℕ) → i < length (wordsFilled v lent c)
     → getD (wordsFilled v lent c) i 0 ≡ userAddress expected i
 read-expected v lent d address count expected accepted told =
-    writes.read-expected v lent d address count expected accepted told
+    found.read-expected v lent d address count expected accepted told
 
 -- In a drive whose table has an entry for each block and whose store is the one that is lent:
 module _ (v : Drive) (lent : Lengths) (whole : size (v .table) ≤ length (v .table .blocks)) (own : length (v .store) ≡ lent .store) where
@@ -162,15 +162,15 @@ module _ (v : Drive) (lent : Lengths) (whole : size (v .table) ≤ length (v .ta
       → answerTo v lent (Erase d n) .values ≡ m ∷ []
       → (a : FlashAddress) → a .block ≡ m → a .offset .0 < adusPerBlock (v .table .config) .0
       → stored (driveAfter v lent (Erase d n)) a 1 ≡ allOnes ∷ []
-  erased-all-ones d n m accepted answer a same inside = writes.erase-found v lent whole own d n m accepted answer a same inside
+  erased-all-ones d n m accepted answer a same inside = found.erase-found v lent whole own d n m accepted answer a same inside
 
   -- Each flash address that an accepted write hands back holds its user address.
   pub written-by-placement : (d p start : ℕ) (count : Adus)
       → let c = WriteByPlacement d p start count in
       verdict v lent c ≡ 0 → Found (driveAfter v lent c) (wordsFilled v lent c) (userAddresses start (count .0))
-  written-by-placement d p start count accepted = writes.placement-found v lent whole own d p start count accepted
+  written-by-placement d p start count accepted = found.placement-found v lent whole own d p start count accepted
 
   pub written-by-block : (d n start : ℕ) (count : Adus)
       → let c = WriteByBlock d n start count in
       verdict v lent c ≡ 0 → Found (driveAfter v lent c) (wordsFilled v lent c) (userAddresses start (count .0))
-  written-by-block d n start count accepted = writes.block-found v lent whole own d n start count accepted
+  written-by-block d n start count accepted = found.block-found v lent whole own d n start count accepted

@@ -6,6 +6,7 @@ pub mod Soundness
 pub mod Start
 pub mod Blocks
 pub mod Writes
+pub mod Found
 pub mod LogPages
 pub mod Questions
 pub mod Effects

@@ -11,12 +11,12 @@ use Rattle.rules.specs.Counting.{allTo, numbersTo, rowTo, sumTo}
 use Rattle.rules.specs.Domains.{coverage, createdDomain}
 use Rattle.rules.specs.Drive.{heldCount, openBlockTo, openCount, overwritten}
 use Rattle.rules.specs.Effects.{driveAfter, effect, wordsFilled}
-use Rattle.rules.specs.ProvedTable.{allAgree, provedTable, sameNumbers}
+use Rattle.rules.specs.ProvedTable.{agrees, allAgree, provedTable, sameNumbers}
 use Rattle.rules.specs.Questions.{questions, userAddressesFit}
 use Rattle.rules.specs.Runs.{answers, run}
 use Rattle.rules.specs.Soundness.{sound}
 use Rattle.rules.specs.Start.{started}
 
 pub proved-table : allAgree provedTable ≡ true
-unfolding areElements elementsOf fieldsOf leastFrom offsetBits offsetOf wordOf createAnswer parseAnswer answered firstNo adusPerBlock drivePlanes eachInRange planesPerBlock storeLength stretchStart wholeBlocks withinLimits closed countedDown writtenOn chosenTo newBlocks openedFor userAddress writtenByPlacement writtenInto writtenOnwards allTo numbersTo rowTo sumTo coverage createdDomain heldCount openBlockTo openCount overwritten driveAfter effect wordsFilled allAgree sameNumbers questions userAddressesFit answers run sound started
+unfolding areElements elementsOf fieldsOf leastFrom offsetBits offsetOf wordOf createAnswer parseAnswer answered firstNo adusPerBlock drivePlanes eachInRange planesPerBlock storeLength stretchStart wholeBlocks withinLimits closed countedDown writtenOn chosenTo newBlocks openedFor userAddress writtenByPlacement writtenInto writtenOnwards allTo numbersTo rowTo sumTo coverage createdDomain heldCount openBlockTo openCount overwritten driveAfter effect wordsFilled agrees allAgree sameNumbers questions userAddressesFit answers run sound started
 proved-table = refl

@@ -3,14 +3,12 @@ use Prim.Native.Nat.{ℕ, _+_, _-_, _<_}
 use mathlib.Core.Bool.{Bool, true, false}
 use mathlib.Core.Path.{_≡_, refl}
 use native.Mathlib.Omega.{arith}
-use lib.Dec.{eqb}
 use borrow.Author.Tests.{le-leb, ne-eqb}
 use Rattle.geometry.specs.Shape.{eachInRange, withinLimits}
 use Rattle.geometry.specs.declared.shape.Config.{Config}
-use Rattle.geometry.proofs.Laws.Shape.{by-test}
 use Rattle.model.specs.declared.block.Block.{Block}
 use Rattle.rules.specs.Domains.{covered, coverage, reservedBy}
-use Rattle.rules.specs.Drive.{blockAt, clearBlock, clearDomain, domainAt, eachBlock, eachDomain, heldCount, openCount}
+use Rattle.rules.specs.Drive.{blockAt, clearBlock, clearDomain, domainAt, eachBlock, eachDomain, heldCount}
 use Rattle.rules.specs.Soundness.{sound, quotaKept, openLimitKept, eachPair, serialsDiffer, serialGiven, holderExists, placementExists, placementsDiffer, freeIsClear, missingIsClear}
 use Rattle.rules.specs.Start.{emptyTable, started, tableOfZeros}
 use Rattle.rules.proofs.Counting.{each-all, sum-zero}
@@ -35,10 +33,6 @@ clear-domain c d = get-replicate 16 (d - 1) clearDomain
 none-held : (c : Config) (d : ℕ) → 0 < d → heldCount (emptyTable c) d ≡ 0
 unfolding heldCount
 none-held c d p = sum-zero (c .blocks) _ (λ n l. rw (clear-block c n, ne-eqb 0 d (λ e. omega arith)))
-
-none-open : (c : Config) (d : ℕ) → openCount (emptyTable c) d ≡ 0
-unfolding openCount
-none-open c d = sum-zero (c .blocks) _ (λ n l. rw (clear-block c n) (by-test (eqb 0 d) (λ e. rw e) (λ e. rw e)))
 
 -- A test that a clear block passes, every block of an empty table passes; so of every two, and of every domain.
 blocks-pass : (c : Config) (p : Block → Bool) → p clearBlock ≡ true → eachBlock (emptyTable c) p ≡ true

@@ -1,22 +1,18 @@
--- Each flash address that a write hands back holds its user address, an opened block holds all ones, and a Read gives what was
--- expected.
+-- What opening a block and writing do to the store: where the new entries stand, and that all others stay.
 use Prim.Native.Nat.{ℕ, zero, suc, _+_, _-_, _≤_, _<_, min}
-use mathlib.Core.Bool.{Bool, true, false, true≢false, _&&_, _||_}
-use mathlib.Core.List.{List, [], _∷_, _++_, nil≢cons}
-use mathlib.Core.Option.{Option, none, some, Option·some-injective}
+use mathlib.Core.Bool.{true, false, true≢false}
+use mathlib.Core.List.{List, [], _∷_, _++_}
+use mathlib.Core.Option.{Option, none, some}
 use mathlib.Core.Path.{_≡_, refl, sym, ap, _∙_, subst}
 use native.Mathlib.Nat.{add-assoc, mul-le-mul-right, sub-zero, suc-mul}
 use native.Mathlib.Omega.{arith}
-use lib.Dec.{eqb, ltb}
-use borrow.Author.Tests.{eqb-true, leb-true, ltb-false, ltb-true, ne-eqb}
+use lib.Dec.{ltb}
+use borrow.Author.Tests.{ltb-false, ltb-true}
 use lib.ListN.{drop, getD, length, length-append, length-replicate, length-set, length-take, replicate, take, take-append-drop, getD-replicate, List·getD-append}
 use lib.Seq.{getD-set-same, getD-set-other}
-use Rattle.geometry.proofs.Laws.Address.{fields, fields-word}
-use Rattle.geometry.proofs.Laws.Shape.{Limits, both, by-test, limits}
-use Rattle.geometry.specs.Address.{fieldsOf, isBlock, wordOf}
-use Rattle.geometry.specs.Questions.{answered}
-use Rattle.geometry.specs.Shape.{adus, adusPerBlock, between, storeLength, stretchStart}
-use Rattle.geometry.specs.declared.address.FlashAddress.{FlashAddress}
+use Rattle.geometry.proofs.Laws.Shape.{by-test}
+use Rattle.geometry.specs.Address.{wordOf}
+use Rattle.geometry.specs.Shape.{adus, adusPerBlock, storeLength, stretchStart}
 use Rattle.geometry.specs.declared.shape.Adus.{Adus}
 use Rattle.geometry.specs.declared.shape.Config.{Config}
 use Rattle.model.specs.Blocks.{closed, opened, writtenFrom, writtenOn}
@@ -24,23 +20,14 @@ use Rattle.model.specs.declared.block.Block.{Block}
 use Rattle.model.specs.declared.block.State.{State}
 use Rattle.model.specs.declared.block.State.the-variants.{Closed, Free, Open}
 use Rattle.model.specs.declared.block.Way.{Way}
-use Rattle.model.specs.declared.block.Way.the-variants as way
 use Rattle.model.specs.declared.block.Way.the-variants.{Placement}
-use Rattle.model.specs.declared.command.Command.{Command}
-use Rattle.model.specs.declared.command.Command.the-variants.{Erase, Read, WriteByBlock, WriteByPlacement}
 use Rattle.model.specs.declared.table.Table.{Table}
-use Rattle.rules.specs.Blocks.{Written, allOnes, anyBlock, chosenBlock, erasedBlock, matches, newBlocks, nextSerial, openedFor, room, roomIn, stored, userAddress, userAddresses, writtenByPlacement, writtenFirst, writtenInto, writtenOnwards}
-use Rattle.rules.specs.Claims.{Found}
-use Rattle.rules.specs.Counting.{allTo}
-use Rattle.rules.specs.Drive.{Drive, blockAt, clearBlock, isFree, heldBy, isErasedState, isFreeState, isOpenFor, isPlacedState, openBlock, openBlockTo, overwritten, size}
-use Rattle.rules.specs.Effects.{answerTo, driveAfter, effect, erasing, verdict, wordsFilled}
-use Rattle.rules.specs.Questions.{Lengths, isCount, questions, storeFits}
-use Rattle.rules.specs.Soundness.{countsKept}
+use Rattle.rules.specs.Blocks.{Written, allOnes, chosenBlock, newBlocks, nextSerial, openedFor, room, writtenByPlacement, writtenFirst, writtenInto, writtenOnwards}
+use Rattle.rules.specs.Drive.{Drive, blockAt, clearBlock, isFree, isFreeState, openBlock, overwritten, size}
 use Rattle.rules.proofs.Blocks.{Choice, choice}
-use Rattle.rules.proofs.Counting.{all-each, get-row, length-row}
+use Rattle.rules.proofs.Counting.{get-row}
 use Rattle.rules.proofs.Effects.{written-length}
-use Rattle.rules.proofs.Questions.{answered-yes}
-use Rattle.rules.proofs.Soundness.{Clauses, apart}
+use Rattle.rules.proofs.Soundness.{apart}
 use Rattle.rules.proofs.Store.{entry-before, entry-behind, entry-new, length-overwritten}
 
 -- A drive of the configuration c: an entry in the table for each block, and a whole store.
@@ -64,7 +51,7 @@ module _ (c : Config) where
   perBlock = adusPerBlock c .0
 
   -- A block's stretch lies in the store, and two of them lie apart.
-  inside : (n : ℕ) → n < c .blocks → stretchStart c n .0 + perBlock ≤ storeLength c .0
+  pub inside : (n : ℕ) → n < c .blocks → stretchStart c n .0 + perBlock ≤ storeLength c .0
   unfolding stretchStart storeLength
   inside n l = omega (arith, mul-le-mul-right perBlock l, suc-mul n perBlock)
 
@@ -395,7 +382,7 @@ module _ (c : Config) where
   first-whole d none users v o = sym o
   first-whole d (some n) users v o = written-length d n users v
 
-  placement-held : (d p : ℕ) (users : List ℕ) (v : Drive) → Ready c v
+  pub placement-held : (d p : ℕ) (users : List ℕ) (v : Drive) → Ready c v
       → RoomFor (openBlock (v .table) d p) (v .table) (length (take (room (v .table) d p) users))
       → Ready c (writtenByPlacement d p users v .drive) × AllHeld d users (writtenByPlacement d p users v)
   unfolding writtenByPlacement
@@ -413,178 +400,3 @@ module _ (c : Config) where
             (there .held)
             (there .keeps)),
       )
-
--- ---- An accepted write
-
-take-one : (l : List ℕ) (n : ℕ) → n < length l → take 1 (drop n l) ≡ getD l n 0 ∷ []
-take-one [] n k = absurd (omega (arith, k))
-take-one (x ∷ l) zero k = refl
-take-one (x ∷ l) (suc n) k = take-one l n (omega (arith, k))
-
--- An entry is what is stored at its address.
-entry-stored : (c : Config) (v : Drive) (a : FlashAddress) → Ready c v → a .block < c .blocks → a .offset .0 < adusPerBlock c .0
-    → stored v a 1 ≡ entry c v (a .block) (a .offset .0) ∷ []
-entry-stored c v a r n o =
-    let place : ℕ = stretchStart c (a .block) .0 + a .offset .0 in
-    rw (r .shape) (take-one (v .store) place (omega (arith, inside c (a .block) n, o, r .store)))
-
--- What is held is found.
-found : (c : Config) (d : ℕ) (v : Drive) (word user : ℕ) → Limits c → Ready c v → Held c d v word user
-    → stored v (fieldsOf (v .table .config) word) 1 ≡ user ∷ []
-found c d v word user limits r h =
-    let a : FlashAddress = record { domain = d; block = h .block; offset = adus (h .offset) } in
-    let fields-are : fieldsOf (v .table .config) word ≡ a =
-    rw (r .shape, h .address) (fields-word c a (fields c a limits (h .inside-drive) (h .inside-block))) in
-    rw fields-are (entry-stored c v a r (h .inside-drive) (h .inside-block) ∙ ap (λ (x : ℕ). x ∷ []) (h .holds))
-
--- The placement's open block is a block of the drive, and open for it.
-abbrev OpenBelow : Table → ℕ → ℕ → Option ℕ → Type 0
-OpenBelow t p s none = Unit {0}
-OpenBelow t p s (some n) = (n < s) × (isOpenFor p (blockAt t n) ≡ true)
-
-one-more : (t : Table) (p s : ℕ) (found : Option ℕ) → OpenBelow t p s found → OpenBelow t p (suc s) found
-one-more t p s none o = o
-one-more t p s (some n) o = (omega (arith, o .0), o .1)
-
-open-below : (t : Table) (d p s : ℕ) → OpenBelow t p s (openBlockTo t d p s)
-unfolding openBlockTo
-open-below t d p zero = tt
-open-below t d p (suc s) =
-    by-test (heldBy d (blockAt t s) && isOpenFor p (blockAt t s))
-    (λ e. rw e (omega arith, both (heldBy d (blockAt t s)) (isOpenFor p (blockAt t s)) e .1))
-    (λ e. rw e (one-more t p s (openBlockTo t d p s) (open-below t d p s)))
-
--- In a sound table it has room.
-open-counts : (p capacity period : ℕ) (s : State) (b : Block) → isPlacedState p s ≡ true → countsKept capacity period s b ≡ true
-    → (isFreeState s ≡ false) × (b .written .0 < capacity)
-open-counts p capacity period Free b e k = absurd (true≢false (sym e))
-open-counts p capacity period (Open way) b e k =
-    (refl, ltb-true (b .written .0) capacity (both (ltb (b .written .0) capacity) (between 1 period (b .left)) k .0))
-open-counts p capacity period (Closed way) b e k = absurd (true≢false (sym e))
-
-room-for : (t : Table) (p : ℕ) (users : List ℕ) (found : Option ℕ) → Clauses t → OpenBelow t p (size t) found
-    → RoomFor (t .config) found t (length (take (roomIn t found) users))
-room-for t p users none s o = refl
-room-for t p users (some n) s o =
-    let b = blockAt t n in
-    let c = adusPerBlock (t .config) .0 in
-    let counts = open-counts p c (t .config .period) (b .state) b (o .1) (all-each (size t) _ (s .counts) n (o .0)) in
-    (o .0, counts .0, rw length-take (omega (arith, counts .1)))
-
--- What an accepted command leaves is its effect.
-found-after : (v : Drive) (lent : Lengths) (k : Command) (users : List ℕ) → verdict v lent k ≡ 0
-    → Found (effect k v .drive) (effect k v .words) users
-    → Found (driveAfter v lent k) (wordsFilled v lent k) users
-unfolding driveAfter wordsFilled
-found-after v lent k users e h = rw e h
-
-erased-taken : (s : State) → isErasedState s ≡ true → isFreeState s ≡ false
-erased-taken Free e = absurd (true≢false (sym e))
-erased-taken (Open way) e = refl
-erased-taken (Closed way) e = refl
-
-the-first : (a b : Bool) → a || b ≡ true → b ≡ false → a ≡ true
-the-first true b e f = refl
-the-first false b e f = absurd (true≢false (sym e ∙ f))
-
--- What an accepted Erase answers is the block that it opens.
-erasing-values : (d m : ℕ) (found : Option ℕ) (v : Drive) → erasing d found v .values ≡ m ∷ [] → found ≡ some m
-erasing-values d m none v e = absurd (nil≢cons e)
-erasing-values d m (some n) v e = ap (λ (k : ℕ). some k) (ap (λ (ks : List ℕ). getD ks 0 0) e)
-
--- Each flash address that an accepted write hands back holds its user address. The table has an entry for each block, and the
--- store that is lent is the drive's.
-module _ (v : Drive) (lent : Lengths) (whole : size (v .table) ≤ length (v .table .blocks)) (own : length (v .store) ≡ lent .store) where
-  abbrev c : Config
-  c = v .table .config
-
-  ready-if : storeFits (v .table) lent ≡ true → Ready c v
-  ready-if e = record { shape = refl; blocks = whole; store = own ∙ eqb-true (lent .store) (storeLength c .0) e }
-
-  pub placement-found : (d p start : ℕ) (count : Adus) → verdict v lent (WriteByPlacement d p start count) ≡ 0
-      → let k = WriteByPlacement d p start count in
-      Found (driveAfter v lent k) (wordsFilled v lent k) (userAddresses start (count .0))
-  unfolding questions effect
-  placement-found d p start count e =
-      let k = WriteByPlacement d p start count in
-      let users = userAddresses start (count .0) in
-      let clauses = apart (v .table) (answered-yes v lent k 0 e) in
-      let r = ready-if (answered-yes v lent k 1 e) in
-      let w = placement-held c d p users v r (room-for (v .table) p users (openBlock (v .table) d p) clauses (open-below (v .table) d p (size (v .table)))) in
-      found-after v lent k users e (λ i l. found c d _ _ _ (limits c (clauses .limits)) (w .0) (w .1 i l))
-
-  pub block-found : (d n start : ℕ) (count : Adus) → verdict v lent (WriteByBlock d n start count) ≡ 0
-      → let k = WriteByBlock d n start count in
-      Found (driveAfter v lent k) (wordsFilled v lent k) (userAddresses start (count .0))
-  unfolding questions effect
-  block-found d n start count e =
-      let k = WriteByBlock d n start count in
-      let users = userAddresses start (count .0) in
-      let b = blockAt (v .table) n in
-      let clauses = apart (v .table) (answered-yes v lent k 0 e) in
-      let r = ready-if (answered-yes v lent k 1 e) in
-      let l : n < c .blocks = ltb-true n (c .blocks) (both (isBlock c n) (isCount count) (answered-yes v lent k 4 e) .0) in
-      let taken = erased-taken (b .state) (answered-yes v lent k 8 e) in
-      let room = leb-true (b .written .0 + count .0) (adusPerBlock c .0) (answered-yes v lent k 9 e) in
-      let fits : b .written .0 + length users ≤ adusPerBlock c .0 = omega (arith, room, length-row (userAddress start) (count .0)) in
-      let held = into-held c d n users v r l fits taken in
-      found-after v lent k users e
-      (λ i j.
-      found c d _ _ _ (limits c (clauses .limits)) (written-ready c d n users v r l fits)
-      (held i (rw (written-length d n users v) at j)))
-
-  -- A block that an accepted Erase answers holds all ones.
-  erased-inside : (d n m : ℕ) → verdict v lent (Erase d n) ≡ 0 → erasedBlock (v .table) n ≡ some m → m < c .blocks
-  unfolding questions
-  erased-inside d n m e chosen =
-      by-test (eqb n anyBlock)
-      (λ any.
-      let choose : chosenBlock (v .table) ≡ some m = rw any at chosen in
-      subst (Choice (v .table) (size (v .table))) choose (choice (v .table) (size (v .table))) .inside)
-      (λ named.
-      let same : n ≡ m = Option·some-injective n m (rw named at chosen) in
-      let inside : isBlock c n || eqb n anyBlock ≡ true = answered-yes v lent (Erase d n) 4 e in
-      rw (← same) (ltb-true n (c .blocks) (the-first (isBlock c n) (eqb n anyBlock) inside named)))
-
-  erased-drive : (d n m : ℕ) → verdict v lent (Erase d n) ≡ 0 → erasedBlock (v .table) n ≡ some m
-      → driveAfter v lent (Erase d n) ≡ openedFor d way.Erase m v
-  unfolding driveAfter effect
-  erased-drive d n m e chosen = rw (e, chosen)
-
-  erased-block : (d n m : ℕ) → verdict v lent (Erase d n) ≡ 0 → answerTo v lent (Erase d n) .values ≡ m ∷ []
-      → erasedBlock (v .table) n ≡ some m
-  unfolding answered effect
-  erased-block d n m e values = erasing-values d m (erasedBlock (v .table) n) v (rw e at values)
-
-  pub erase-found : (d n m : ℕ) → verdict v lent (Erase d n) ≡ 0 → answerTo v lent (Erase d n) .values ≡ m ∷ []
-      → (a : FlashAddress) → a .block ≡ m → a .offset .0 < adusPerBlock c .0
-      → stored (driveAfter v lent (Erase d n)) a 1 ≡ allOnes ∷ []
-  unfolding questions
-  erase-found d n m e values a same o =
-      let chosen = erased-block d n m e values in
-      let l = erased-inside d n m e chosen in
-      let r = ready-if (answered-yes v lent (Erase d n) 1 e) in
-      let opened = opened-ready c d way.Erase m v r l in
-      subst (λ (w : Drive). stored w a 1 ≡ allOnes ∷ []) (sym (erased-drive d n m e chosen))
-      (entry-stored c (openedFor d way.Erase m v) a opened (rw same l) o
-      ∙ ap (λ (x : ℕ). x ∷ []) (rw same (opened-entry c d way.Erase m v r l (a .offset .0) o)))
-
--- ---- An accepted Read
-
-the-second : (a b : Bool) → a || b ≡ true → a ≡ false → b ≡ true
-the-second true b e f = absurd (true≢false f)
-the-second false b e f = e
-
-pub read-expected : (v : Drive) (lent : Lengths) (d address : ℕ) (count : Adus) (expected : ℕ)
-    → verdict v lent (Read d address count expected) ≡ 0
-    → ¬ (expected ≡ allOnes)
-    → (i : ℕ) → i < length (wordsFilled v lent (Read d address count expected))
-    → getD (wordsFilled v lent (Read d address count expected)) i 0 ≡ userAddress expected i
-unfolding questions effect wordsFilled matches
-read-expected v lent d address count expected e told =
-    let entries = stored v (fieldsOf (v .table .config) address) (count .0) in
-    let same =
-    the-second (eqb expected allOnes) (allTo (λ i. eqb (getD entries i 0) (userAddress expected i)) (length entries))
-    (answered-yes v lent (Read d address count expected) 9 e)
-    (ne-eqb expected allOnes told) in
-    rw e (λ i l. eqb-true (getD entries i 0) (userAddress expected i) (all-each (length entries) _ same i l))

@@ -11,7 +11,7 @@ use Rattle.rules.specs.Counting.{allTo, numbersTo, rowTo, sumTo}
 use Rattle.rules.specs.Domains.{coverage, createdDomain}
 use Rattle.rules.specs.Drive.{heldCount, openBlockTo, openCount, overwritten}
 use Rattle.rules.specs.Effects.{driveAfter, effect, wordsFilled}
-use Rattle.rules.specs.ProvedTable.{allAgree, sameNumbers}
+use Rattle.rules.specs.ProvedTable.{agrees, allAgree, sameNumbers}
 use Rattle.rules.specs.Questions.{questions, userAddressesFit}
 use Rattle.rules.specs.Runs.{answers, run}
 use Rattle.rules.specs.Soundness.{sound}
@@ -19,5 +19,5 @@ use Rattle.rules.specs.Start.{started}
 use Rattle.rules.specs.WrongTurns.{valuesOf, wrongTurns}
 
 pub no-wrong-turns : allAgree wrongTurns ≡ true
-unfolding areElements elementsOf fieldsOf leastFrom offsetBits offsetOf wordOf createAnswer parseAnswer answered firstNo adusPerBlock drivePlanes eachInRange planesPerBlock storeLength stretchStart wholeBlocks withinLimits closed countedDown writtenOn chosenTo newBlocks openedFor userAddress writtenByPlacement writtenInto writtenOnwards allTo numbersTo rowTo sumTo coverage createdDomain heldCount openBlockTo openCount overwritten driveAfter effect wordsFilled allAgree sameNumbers questions userAddressesFit answers run sound started valuesOf
+unfolding areElements elementsOf fieldsOf leastFrom offsetBits offsetOf wordOf createAnswer parseAnswer answered firstNo adusPerBlock drivePlanes eachInRange planesPerBlock storeLength stretchStart wholeBlocks withinLimits closed countedDown writtenOn chosenTo newBlocks openedFor userAddress writtenByPlacement writtenInto writtenOnwards allTo numbersTo rowTo sumTo coverage createdDomain heldCount openBlockTo openCount overwritten driveAfter effect wordsFilled agrees allAgree sameNumbers questions userAddressesFit answers run sound started valuesOf
 no-wrong-turns = refl

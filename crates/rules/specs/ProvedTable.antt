@@ -1,4 +1,4 @@
--- Document 01, "Proved table": P1 to P12 as rows, each with what the rules give and what 01 says.
+-- Document 01, "Proved table": P1 to P12 as rows of facts, each with what the rules give and what 01 says.
 use Prim.Native.Nat.{ℕ, _+_, _-_, _*_, _^_}
 use mathlib.Core.Bool.{Bool, true, false, _&&_}
 use mathlib.Core.List.{List, [], _∷_, _++_, map}
@@ -17,14 +17,22 @@ use Rattle.rules.specs.Drive.{Drive, blockAt, closedOf, domainAt, heldBy
 use Rattle.rules.specs.Effects.{wordsFilled}
 use Rattle.rules.specs.LogPages.{wearIndex}
 use Rattle.rules.specs.Questions.{Lengths}
-use Rattle.rules.specs.Runs.{Call, answers, begun, run}
+use Rattle.rules.specs.Runs.{Call, answers, begun, reference}
 
-pub record Row : Type 0 where
+infix 4 _is_ _are_
+-- What the rules give, and what 01 says.
+pub record Fact : Type 0 where
   pub computed : List ℕ
   pub said : List ℕ
 
-abbrev pub row : List ℕ → List ℕ → Row
-row computed said = record { computed = computed; said = said }
+abbrev pub _are_ : List ℕ → List ℕ → Fact
+computed are said = record { computed = computed; said = said }
+
+abbrev pub _is_ : ℕ → ℕ → Fact
+computed is said = (computed ∷ []) are (said ∷ [])
+
+abbrev pub Row : Type 0
+Row = List Fact
 
 -- Drive small, a store for it, and calls that lend it with enough words and bytes.
 abbrev pub small : Config
@@ -39,15 +47,15 @@ call c = record { command = c; lent = enough }
 abbrev pub calls : List Command → List Call
 calls cs = map call cs
 
-abbrev pub freshDrive : Drive
-freshDrive = begun small (replicate 1024 0)
+abbrev pub freshStore : List ℕ
+freshStore = replicate 1024 0
 
 -- What a list of commands leaves, the number that each gets, and the words that one command fills after it.
 abbrev pub after : List Command → Drive
-after cs = run (calls cs) freshDrive
+after cs = reference small freshStore (calls cs)
 
 abbrev pub numbersGot : List Command → List ℕ
-numbersGot cs = map (λ (o : Outcome). o .number) (answers (calls cs) freshDrive)
+numbersGot cs = map (λ (o : Outcome). o .number) (answers (calls cs) (begun small freshStore))
 
 abbrev pub wordsOf : List Command → Command → List ℕ
 wordsOf cs c = wordsFilled (after cs) enough c
@@ -83,114 +91,129 @@ writeFrom start count = WriteByPlacement 1 0 start (adus count)
 abbrev pub p1 : Row
 p1 =
     let r = domainAt (after (domain1 ∷ []) .table) 1 in
-    row
-    (numbersGot (domain1 ∷ []) ++ (r .reserved ∷ r .quota * planesPerBlock small .0 ∷ r .limit ∷ []))
-    (0 ∷ 3 ∷ 384 ∷ 4 ∷ [])
+    (numbersGot (domain1 ∷ []) are 0 ∷ [])
+    ∷ (r .reserved is 3)
+    ∷ (r .quota * planesPerBlock small .0 is 384)
+    ∷ (r .limit is 4)
+    ∷ []
 
 -- P2, after P1. Domain 2 with guarantee 640, quota 0 is accepted; domain 3 with guarantee 1 then gets 14.
 abbrev pub upToP2 : List Command
 upToP2 = domain1 ∷ Create 2 (planes 640) (planes 0) 1 0 ∷ Create 3 (planes 1) (planes 0) 1 0 ∷ []
 
 abbrev pub p2 : Row
-p2 = row (numbersGot upToP2) (0 ∷ 0 ∷ 14 ∷ [])
+p2 = (numbersGot upToP2 are 0 ∷ 0 ∷ 14 ∷ []) ∷ []
 
 -- P3, after P2. Domain 3 with guarantee 0, quota 1,024: created; its Erase gets 14.
 abbrev pub p3 : Row
 p3 =
-    row
-    (numbersGot (upToP2 ++ (Create 3 (planes 0) (planes 1024) 1 0 ∷ Erase 3 anyBlock ∷ [])))
-    (0 ∷ 0 ∷ 14 ∷ 0 ∷ 14 ∷ [])
+    let cs = upToP2 ++ (Create 3 (planes 0) (planes 1024) 1 0 ∷ Erase 3 anyBlock ∷ []) in
+    (numbersGot cs are 0 ∷ 0 ∷ 14 ∷ 0 ∷ 14 ∷ []) ∷ []
 
 -- P4. Write 256 fresh: blocks 0 and 1, both Closed; the 129th address is 0001000000000080h.
 abbrev pub p4 : Row
 p4 =
-    let v = after (domain1 ∷ write 256 ∷ []) in
-    row
-    (numbersGot (domain1 ∷ write 256 ∷ [])
-    ++ heldIn v
-    ++ closedIn v
-    ++ (getD (wordsOf (domain1 ∷ []) (write 256)) 128 0 ∷ []))
-    (0 ∷ 0 ∷ 0 ∷ 1 ∷ 0 ∷ 1 ∷ 281474976710784 ∷ [])
+    let cs = domain1 ∷ write 256 ∷ [] in
+    (numbersGot cs are 0 ∷ 0 ∷ [])
+    ∷ (heldIn (after cs) are 0 ∷ 1 ∷ [])
+    ∷ (closedIn (after cs) are 0 ∷ 1 ∷ [])
+    ∷ (length (wordsOf (domain1 ∷ []) (write 256)) is 256)
+    ∷ (getD (wordsOf (domain1 ∷ []) (write 256)) 128 0 is 2 ^ 48 + 128)
+    ∷ []
 
 -- P5. Write 100, then 28: Closed, none open. Then 1: block 1.
 abbrev pub p5 : Row
 p5 =
-    let twice = domain1 ∷ write 100 ∷ write 28 ∷ [] in
-    let v = after twice in
-    let w = after (twice ++ (write 1 ∷ [])) in
-    row
-    (numbersGot (twice ++ (write 1 ∷ []))
-    ++ (length (openIn v) ∷ closedIn v)
-    ++ openIn w
-    ++ wordsOf twice (write 1))
-    (0 ∷ 0 ∷ 0 ∷ 0 ∷ 0 ∷ 0 ∷ 1 ∷ 281474976710784 ∷ [])
+    let two = domain1 ∷ write 100 ∷ write 28 ∷ [] in
+    let three = two ++ (write 1 ∷ []) in
+    (numbersGot three are 0 ∷ 0 ∷ 0 ∷ 0 ∷ [])
+    ∷ (closedIn (after two) are 0 ∷ [])
+    ∷ (openIn (after two) are [])
+    ∷ (openIn (after three) are 1 ∷ [])
+    ∷ (wordsOf two (write 1) are (2 ^ 48 + 128) ∷ [])
+    ∷ []
 
 -- P6. Write 100, then 30: the second block has 2.
 abbrev pub p6 : Row
 p6 =
     let cs = domain1 ∷ write 100 ∷ write 30 ∷ [] in
-    let v = after cs in
-    row (numbersGot cs ++ closedIn v ++ openIn v ++ (writtenOf v 1 ∷ [])) (0 ∷ 0 ∷ 0 ∷ 0 ∷ 1 ∷ 2 ∷ [])
+    (numbersGot cs are 0 ∷ 0 ∷ 0 ∷ [])
+    ∷ (closedIn (after cs) are 0 ∷ [])
+    ∷ (openIn (after cs) are 1 ∷ [])
+    ∷ (writtenOf (after cs) 1 is 2)
+    ∷ []
 
 -- P7. Write 1; Pulse 59 leaves 1 second; write 1; Pulse 1 closes.
 abbrev pub p7 : Row
 p7 =
     let one = domain1 ∷ write 1 ∷ [] in
-    let pulse = one ++ (Pulse 59 ∷ []) in
-    let two = pulse ++ (write 1 ∷ []) in
-    let end = two ++ (Pulse 1 ∷ []) in
-    row
-    (numbersGot end
-    ++ (leftOf (after one) 0 ∷ leftOf (after pulse) 0 ∷ leftOf (after two) 0 ∷ writtenOf (after two) 0 ∷ [])
-    ++ (length (openIn (after two)) ∷ length (openIn (after end)) ∷ closedIn (after end))
-    ++ (leftOf (after end) 0 ∷ []))
-    (0 ∷ 0 ∷ 0 ∷ 0 ∷ 0 ∷ 60 ∷ 1 ∷ 1 ∷ 2 ∷ 1 ∷ 0 ∷ 0 ∷ 0 ∷ [])
+    let two = one ++ (Pulse 59 ∷ []) in
+    let three = two ++ (write 1 ∷ []) in
+    let four = three ++ (Pulse 1 ∷ []) in
+    (numbersGot four are 0 ∷ 0 ∷ 0 ∷ 0 ∷ 0 ∷ [])
+    ∷ (leftOf (after one) 0 is 60)
+    ∷ (leftOf (after two) 0 is 1)
+    ∷ (leftOf (after three) 0 is 1)
+    ∷ (openIn (after three) are 0 ∷ [])
+    ∷ (writtenOf (after three) 0 is 2)
+    ∷ (leftOf (after four) 0 is 0)
+    ∷ (openIn (after four) are [])
+    ∷ (closedIn (after four) are 0 ∷ [])
+    ∷ []
 
 -- P8. LBA 2^40 − 1, meta 0: one ADU passes, two get 8.
 abbrev pub p8 : Row
 p8 =
-    row
-    (numbersGot (domain1 ∷ writeFrom (2 ^ 40 - 1) 1 ∷ []) ++ numbersGot (domain1 ∷ writeFrom (2 ^ 40 - 1) 2 ∷ []))
-    (0 ∷ 0 ∷ 0 ∷ 8 ∷ [])
+    let start = 2 ^ 40 - 1 in
+    (numbersGot (domain1 ∷ writeFrom start 1 ∷ []) are 0 ∷ 0 ∷ [])
+    ∷ (numbersGot (domain1 ∷ writeFrom start 2 ∷ []) are 0 ∷ 8 ∷ [])
+    ∷ []
 
 -- P9. Meta FFFFFFh, LBA 2^40 − 2: one passes, two get 8.
 abbrev pub p9 : Row
 p9 =
-    let start = 16777215 * 2 ^ 40 + (2 ^ 40 - 2) in
-    row
-    (numbersGot (domain1 ∷ writeFrom start 1 ∷ []) ++ numbersGot (domain1 ∷ writeFrom start 2 ∷ []))
-    (0 ∷ 0 ∷ 0 ∷ 8 ∷ [])
+    let start = (2 ^ 24 - 1) * 2 ^ 40 + (2 ^ 40 - 2) in
+    (numbersGot (domain1 ∷ writeFrom start 1 ∷ []) are 0 ∷ 0 ∷ [])
+    ∷ (numbersGot (domain1 ∷ writeFrom start 2 ∷ []) are 0 ∷ 8 ∷ [])
+    ∷ []
 
 -- P10. P/E 7 gives index 1; 1,277 and 1,300 give 255.
 abbrev pub p10 : Row
-p10 = row (wearIndex small 7 ∷ wearIndex small 1277 ∷ wearIndex small 1300 ∷ []) (1 ∷ 255 ∷ 255 ∷ [])
+p10 = (wearIndex small 7 is 1) ∷ (wearIndex small 1277 is 255) ∷ (wearIndex small 1300 is 255) ∷ []
 
 -- P11. G 128, S 8, D 2, L 2, K 4: page 3, die 1, plane 0, ADU 2 is offset 58; domain 5, block 3: 000500000000183Ah.
 abbrev pub p11 : Row
 p11 =
     let c = configOf 128 2 2 4 8 1000 60 in
     let e = elementsGiven 3 1 0 2 in
-    let made = createAnswer c 5 3 e in
-    row (offsetOf c e .0 ∷ made .number ∷ made .values) (58 ∷ 0 ∷ 1407374883559482 ∷ [])
+    (offsetOf c e .0 is 58)
+    ∷ (createAnswer c 5 3 e .number is 0)
+    ∷ (createAnswer c 5 3 e .values are (5 * 2 ^ 48 + 6202) ∷ [])
+    ∷ []
 
 -- P12. G 128, S 8, D 3, L 2, K 1: page 1, die 2, plane 1 is offset 11; b is 10; a word with offset 768 gets 6.
 abbrev pub p12 : Row
 p12 =
     let c = configOf 128 3 2 1 8 1000 60 in
-    row
-    (offsetOf c (elementsGiven 1 2 1 0) .0 ∷ offsetBits c ∷ parseAnswer c (2 ^ 48 + 768) .number ∷ [])
-    (11 ∷ 10 ∷ 6 ∷ [])
+    (offsetOf c (elementsGiven 1 2 1 0) .0 is 11)
+    ∷ (offsetBits c is 10)
+    ∷ (parseAnswer c (2 ^ 48 + 768) .number is 6)
+    ∷ []
 
 abbrev pub provedTable : List Row
 provedTable = p1 ∷ p2 ∷ p3 ∷ p4 ∷ p5 ∷ p6 ∷ p7 ∷ p8 ∷ p9 ∷ p10 ∷ p11 ∷ p12 ∷ []
 
--- The rules give in every row what 01 says.
+-- In every row the rules give what 01 says.
 unfoldable pub sameNumbers : List ℕ → List ℕ → Bool
 sameNumbers [] [] = true
 sameNumbers [] (y ∷ ys) = false
 sameNumbers (x ∷ xs) [] = false
 sameNumbers (x ∷ xs) (y ∷ ys) = eqb x y && sameNumbers xs ys
 
+unfoldable pub agrees : Row → Bool
+agrees [] = true
+agrees (f ∷ facts) = sameNumbers (f .computed) (f .said) && agrees facts
+
 unfoldable pub allAgree : List Row → Bool
 allAgree [] = true
-allAgree (r ∷ rows) = sameNumbers (r .computed) (r .said) && allAgree rows
+allAgree (r ∷ rows) = agrees r && allAgree rows

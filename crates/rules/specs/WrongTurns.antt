@@ -1,6 +1,7 @@
 -- Document 01, "Where a builder goes astray": a row for each line that the table of P1 to P12 does not show already.
 use Prim.Native.Nat.{ℕ}
 use mathlib.Core.List.{List, [], _∷_, _++_}
+use lib.ListN.{drop, take}
 use Rattle.geometry.specs.Questions.{Outcome}
 use Rattle.geometry.specs.Shape.{adus, planes}
 use Rattle.model.specs.declared.command.Command.{Command}
@@ -8,8 +9,8 @@ use Rattle.model.specs.declared.command.Command.the-variants.{Close, Create, Er
 use Rattle.rules.specs.Blocks.{anyBlock}
 use Rattle.rules.specs.Counting.{countTo}
 use Rattle.rules.specs.Drive.{blockAt, isFree, size}
-use Rattle.rules.specs.ProvedTable.{Row, after, calls, domain1, freshDrive, leftOf, numbersGot, row}
-use Rattle.rules.specs.Runs.{answers}
+use Rattle.rules.specs.ProvedTable.{Row, after, calls, domain1, freshStore, _are_, _is_, leftOf, numbersGot, small}
+use Rattle.rules.specs.Runs.{answers, begun}
 
 -- The values that the commands of a list are answered, one after the other.
 unfoldable pub valuesOf : List Outcome → List ℕ
@@ -17,7 +18,7 @@ valuesOf [] = []
 valuesOf (o ∷ os) = o .values ++ valuesOf os
 
 abbrev pub valuesGot : List Command → List ℕ
-valuesGot cs = valuesOf (answers (calls cs) freshDrive)
+valuesGot cs = valuesOf (answers (calls cs) (begun small freshStore))
 
 -- A domain without a guarantee that may take every block.
 abbrev pub guest : ℕ → Command
@@ -31,10 +32,13 @@ keptSeconds =
     let fail = write ++ (Erase 1 0 ∷ []) in
     let close = fail ++ (Close 1 0 ∷ []) in
     let again = close ++ (Close 1 0 ∷ []) in
-    row
-    (numbersGot again
-    ++ (leftOf (after pulse) 0 ∷ leftOf (after write) 0 ∷ leftOf (after fail) 0 ∷ leftOf (after close) 0 ∷ leftOf (after again) 0 ∷ []))
-    (0 ∷ 0 ∷ 0 ∷ 0 ∷ 10 ∷ 0 ∷ 0 ∷ 50 ∷ 50 ∷ 50 ∷ 0 ∷ 0 ∷ [])
+    (numbersGot again are 0 ∷ 0 ∷ 0 ∷ 0 ∷ 10 ∷ 0 ∷ 0 ∷ [])
+    ∷ (leftOf (after pulse) 0 is 50)
+    ∷ (leftOf (after write) 0 is 50)
+    ∷ (leftOf (after fail) 0 is 50)
+    ∷ (leftOf (after close) 0 is 0)
+    ∷ (leftOf (after again) 0 is 0)
+    ∷ []
 
 -- Each offset element has no bits of its own: P12.
 
@@ -44,9 +48,9 @@ reservedStay =
     let erase = Erase 3 anyBlock in
     let cs = domain1 ∷ guest 3 ∷ erase ∷ erase ∷ erase ∷ erase ∷ erase ∷ erase ∷ [] in
     let t = after cs .table in
-    row
-    (numbersGot cs ++ (countTo (λ n. isFree (blockAt t n)) (size t) ∷ []))
-    (0 ∷ 0 ∷ 0 ∷ 0 ∷ 0 ∷ 0 ∷ 0 ∷ 14 ∷ 3 ∷ [])
+    (numbersGot cs are 0 ∷ 0 ∷ 0 ∷ 0 ∷ 0 ∷ 0 ∷ 0 ∷ 14 ∷ [])
+    ∷ (countTo (λ n. isFree (blockAt t n)) (size t) is 3)
+    ∷ []
 
 -- A freed block is given out again, once those with fewer erases have been.
 abbrev pub eraseAndFree : ℕ → List Command
@@ -54,22 +58,26 @@ eraseAndFree n = Erase 1 anyBlock ∷ Free 1 n ∷ []
 
 abbrev pub freedAgain : Row
 freedAgain =
-    let round =
-    eraseAndFree 0 ++ eraseAndFree 1 ++ eraseAndFree 2 ++ eraseAndFree 3
-    ++ eraseAndFree 4 ++ eraseAndFree 5 ++ eraseAndFree 6 ++ eraseAndFree 7 in
-    row
-    (valuesGot (domain1 ∷ round ++ (Erase 1 anyBlock ∷ [])))
-    (0 ∷ 0 ∷ 1 ∷ 1 ∷ 2 ∷ 2 ∷ 3 ∷ 3 ∷ 4 ∷ 4 ∷ 5 ∷ 5 ∷ 6 ∷ 6 ∷ 7 ∷ 7 ∷ 0 ∷ [])
+    let half = eraseAndFree 0 ++ eraseAndFree 1 ++ eraseAndFree 2 ++ eraseAndFree 3 in
+    let other = eraseAndFree 4 ++ eraseAndFree 5 ++ eraseAndFree 6 ++ eraseAndFree 7 in
+    let got = valuesGot (domain1 ∷ half ++ other ++ (Erase 1 anyBlock ∷ [])) in
+    (take 8 got are 0 ∷ 0 ∷ 1 ∷ 1 ∷ 2 ∷ 2 ∷ 3 ∷ 3 ∷ [])
+    ∷ (drop 8 got are 4 ∷ 4 ∷ 5 ∷ 5 ∷ 6 ∷ 6 ∷ 7 ∷ 7 ∷ 0 ∷ [])
+    ∷ []
 
 -- No spare block is opened when the last ADU exactly fills one: P4 and P5.
 
 -- Each domain counts its own serials.
 abbrev pub ownSerials : Row
 ownSerials =
-    let t = after (domain1 ∷ guest 2 ∷ Erase 1 anyBlock ∷ Erase 1 anyBlock ∷ Erase 2 anyBlock ∷ Erase 1 anyBlock ∷ []) .table in
-    row
-    (blockAt t 0 .serial ∷ blockAt t 1 .serial ∷ blockAt t 2 .serial ∷ blockAt t 3 .serial ∷ [])
-    (1 ∷ 2 ∷ 1 ∷ 3 ∷ [])
+    let erase1 = Erase 1 anyBlock in
+    let erase2 = Erase 2 anyBlock in
+    let t = after (domain1 ∷ guest 2 ∷ erase1 ∷ erase1 ∷ erase2 ∷ erase1 ∷ []) .table in
+    (blockAt t 0 .serial is 1)
+    ∷ (blockAt t 1 .serial is 2)
+    ∷ (blockAt t 2 .serial is 1)
+    ∷ (blockAt t 3 .serial is 3)
+    ∷ []
 
 abbrev pub wrongTurns : List Row
 wrongTurns = keptSeconds ∷ reservedStay ∷ freedAgain ∷ ownSerials ∷ []
