@@ -6,6 +6,7 @@ use mathlib.Core.List.{List, [], _∷_}
 use mathlib.Core.Option.{none, some}
 use mathlib.Core.Path.{_≡_, subst}
 use lib.ListN.{getD, length}
+use Rattle.geometry.specs.Questions.{refusal, success}
 use Rattle.geometry.specs.Shape.{adusPerBlock, planes, withinLimits}
 use Rattle.geometry.specs.declared.address.FlashAddress.{FlashAddress}
 use Rattle.geometry.specs.declared.shape.Adus.{Adus}
@@ -26,7 +27,7 @@ use Rattle.rules.specs.LogPages.{OpenList, closedList, listLength, page}
 use Rattle.rules.specs.Questions.{Lengths, questions}
 use Rattle.rules.specs.Runs.{ownDomain}
 use Rattle.rules.specs.Soundness.{sound}
-use Rattle.rules.specs.Start.{started, tableOfZeros}
+use Rattle.rules.specs.Start.{emptyTable, started, tableOfZeros}
 use Rattle.rules.proofs.Blocks as blocks
 use Rattle.rules.proofs.Domains as domains
 use Rattle.rules.proofs.Effects as effects
@@ -36,15 +37,19 @@ use Rattle.rules.proofs.Runs as runs
 use Rattle.rules.proofs.Start as start
 use Rattle.rules.proofs.Found as found
 
--- The table of zeros is never sound, so a refused start leaves a drive that answers 2 to every command; an accepted one is.
-pub zeros-unsound : sound tableOfZeros ≡ false
-zeros-unsound = start.zeros-unsound
+-- A start within the limits gives the table without domains, which is sound; any other is refused with 1 and the table of zeros,
+-- which is never sound.
+pub start-accepted : (c : Config) → withinLimits c ≡ true → started c ≡ record { answer = success []; table = emptyTable c }
+start-accepted c within = start.start-accepted c within
 
 pub started-sound : (c : Config) → withinLimits c ≡ true → sound (started c .table) ≡ true
 started-sound c within = start.started-sound c within
 
-pub refused-start-unsound : (c : Config) → withinLimits c ≡ false → sound (started c .table) ≡ false
-refused-start-unsound c outside = start.refused-start-unsound c outside
+pub start-refused : (c : Config) → withinLimits c ≡ false → started c ≡ record { answer = refusal 1; table = tableOfZeros }
+start-refused c outside = start.start-refused c outside
+
+pub zeros-unsound : sound tableOfZeros ≡ false
+zeros-unsound = start.zeros-unsound
 
 -- Each command's questions have rising numbers from 2 to 16, which is document 01's order.
 pub questions-in-order : (v : Drive) (lent : Lengths) (c : Command) → rising 1 (questions v lent c) ≡ true
@@ -98,7 +103,7 @@ pub only-by-changes : (v : Drive) (lent : Lengths) (c : Command) (n : ℕ)
 only-by-changes v lent c n = runs.follows v lent c .reached n
 
 -- A block whose P/E count did not rise has no more seconds left than before: no write, no Close and no refused command winds
--- the countdown up again.
+-- the countdown up again. (Of a saturated count it cannot be told whether it rose.)
 pub never-rewound : (v : Drive) (lent : Lengths) (c : Command) (n : ℕ)
     → blockAt (v .table) n .erases < 4294967295
     → blockAt (driveAfter v lent c .table) n .erases ≡ blockAt (v .table) n .erases

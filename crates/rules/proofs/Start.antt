@@ -1,9 +1,11 @@
 -- The table of zeros is never sound, and a started one is.
 use Prim.Native.Nat.{ℕ, _+_, _-_, _<_}
 use mathlib.Core.Bool.{Bool, true, false}
+use mathlib.Core.List.{[]}
 use mathlib.Core.Path.{_≡_, refl}
 use native.Mathlib.Omega.{arith}
 use borrow.Author.Tests.{le-leb, ne-eqb}
+use Rattle.geometry.specs.Questions.{answered, firstNo, refusal, success}
 use Rattle.geometry.specs.Shape.{eachInRange, withinLimits}
 use Rattle.geometry.specs.declared.shape.Config.{Config}
 use Rattle.model.specs.declared.block.Block.{Block}
@@ -19,9 +21,9 @@ pub zeros-unsound : sound tableOfZeros ≡ false
 unfolding sound withinLimits eachInRange
 zeros-unsound = refl
 
-pub refused-start-unsound : (c : Config) → withinLimits c ≡ false → sound (started c .table) ≡ false
-unfolding started
-refused-start-unsound c e = rw e zeros-unsound
+pub start-refused : (c : Config) → withinLimits c ≡ false → started c ≡ record { answer = refusal 1; table = tableOfZeros }
+unfolding started answered firstNo
+start-refused c e = rw e
 
 -- In an empty table every block and every domain is clear, and nothing is held.
 clear-block : (c : Config) (n : ℕ) → blockAt (emptyTable c) n ≡ clearBlock
@@ -75,6 +77,9 @@ empty-sound c e =
       missing-clear = domains-pass (λ d. missingIsClear (domainAt (emptyTable c) d)) (λ d p. rw (clear-domain c d));
     })
 
+pub start-accepted : (c : Config) → withinLimits c ≡ true → started c ≡ record { answer = success []; table = emptyTable c }
+unfolding started answered firstNo
+start-accepted c e = rw e
+
 pub started-sound : (c : Config) → withinLimits c ≡ true → sound (started c .table) ≡ true
-unfolding started
-started-sound c e = rw e (empty-sound c e)
+started-sound c e = rw (start-accepted c e) (empty-sound c e)

@@ -4,13 +4,13 @@ use mathlib.Core.Bool.{true, false, true≢false}
 use mathlib.Core.List.{List, [], _∷_, _++_}
 use mathlib.Core.Option.{Option, none, some}
 use mathlib.Core.Path.{_≡_, refl, sym, ap, _∙_, subst}
-use native.Mathlib.Nat.{add-assoc, mul-le-mul-right, sub-zero, suc-mul}
+use native.Mathlib.Nat.{add-assoc, sub-zero}
 use native.Mathlib.Omega.{arith}
 use lib.Dec.{ltb}
 use borrow.Author.Tests.{ltb-false, ltb-true}
 use lib.ListN.{drop, getD, length, length-append, length-replicate, length-set, length-take, replicate, take, take-append-drop, getD-replicate, List·getD-append}
 use lib.Seq.{getD-set-same, getD-set-other}
-use Rattle.geometry.proofs.Laws.Shape.{by-test}
+use Rattle.geometry.proofs.Laws.Shape.{by-test, starts-apart, starts-end}
 use Rattle.geometry.specs.Address.{wordOf}
 use Rattle.geometry.specs.Shape.{adus, adusPerBlock, storeLength, stretchStart}
 use Rattle.geometry.specs.declared.shape.Adus.{Adus}
@@ -27,7 +27,6 @@ use Rattle.rules.specs.Drive.{Drive, blockAt, clearBlock, isFree, isFree
 use Rattle.rules.proofs.Blocks.{Choice, choice}
 use Rattle.rules.proofs.Counting.{get-row}
 use Rattle.rules.proofs.Effects.{written-length}
-use Rattle.rules.proofs.Soundness.{apart}
 use Rattle.rules.proofs.Store.{entry-before, entry-behind, entry-new, length-overwritten}
 
 -- A drive of the configuration c: an entry in the table for each block, and a whole store.
@@ -50,14 +49,9 @@ module _ (c : Config) where
   abbrev perBlock : ℕ
   perBlock = adusPerBlock c .0
 
-  -- A block's stretch lies in the store, and two of them lie apart.
+  -- A block's stretch lies in the store.
   pub inside : (n : ℕ) → n < c .blocks → stretchStart c n .0 + perBlock ≤ storeLength c .0
-  unfolding stretchStart storeLength
-  inside n l = omega (arith, mul-le-mul-right perBlock l, suc-mul n perBlock)
-
-  next-to : (n m : ℕ) → n < m → stretchStart c n .0 + perBlock ≤ stretchStart c m .0
-  unfolding stretchStart
-  next-to n m l = omega (arith, mul-le-mul-right perBlock l, suc-mul n perBlock)
+  inside n l = omega (arith, starts-apart c n (c .blocks) l, ap (λ (a : Adus). a .0) (starts-end c))
 
   -- What is put into one block's stretch leaves the others alone.
   entry-other : (n m start : ℕ) (new row : List ℕ) (offset : ℕ)
@@ -72,9 +66,9 @@ module _ (c : Config) where
       let within : start ≤ length row = omega (arith, inside m l, whole, to) in
       by-test (ltb n m)
       (λ e. entry-before start (stretchStart c n .0 + offset) new row within
-      (omega (arith, next-to n m (ltb-true n m e), o, from)))
+      (omega (arith, starts-apart c n m (ltb-true n m e), o, from)))
       (λ e. entry-behind start (stretchStart c n .0 + offset) new row within
-      (omega (arith, next-to m n (below e), to)))
+      (omega (arith, starts-apart c m n (below e), to)))
     where
       below : ltb n m ≡ false → m < n
       below e = omega (arith, ltb-false n m e)

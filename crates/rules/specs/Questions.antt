@@ -81,6 +81,16 @@ withinQuota t d new = leb (heldCount t d + new) (domainAt t d .quota)
 abbrev pub coveredAfter : Table → ℕ → ℕ → Bool
 coveredAfter t d new = coveredWith t d (domainAt t d .reserved) (heldCount t d + new)
 
+-- Close and Free are asked the same.
+abbrev pub heldBlockQuestions : Table → ℕ → ℕ → List Question
+heldBlockQuestions t d n =
+    ask 2 (sound t)
+    ∷ ask 4 (isDomainId d)
+    ∷ ask 5 (exists t d)
+    ∷ ask 6 (isBlock (t .config) n)
+    ∷ ask 9 (isHeld t d n)
+    ∷ []
+
 -- Each command's questions, in 01's order.
 unfoldable pub questions : Drive → Lengths → Command → List Question
 questions v lent (Create d guarantee quota placements limit) =
@@ -121,22 +131,8 @@ questions v lent (Erase d n) =
     ∷ ask 13 (withinQuota t d (newOfErase t d n))
     ∷ ask 14 (coveredAfter t d (newOfErase t d n))
     ∷ []
-questions v lent (Close d n) =
-    let t = v .table in
-    ask 2 (sound t)
-    ∷ ask 4 (isDomainId d)
-    ∷ ask 5 (exists t d)
-    ∷ ask 6 (isBlock (t .config) n)
-    ∷ ask 9 (isHeld t d n)
-    ∷ []
-questions v lent (Free d n) =
-    let t = v .table in
-    ask 2 (sound t)
-    ∷ ask 4 (isDomainId d)
-    ∷ ask 5 (exists t d)
-    ∷ ask 6 (isBlock (t .config) n)
-    ∷ ask 9 (isHeld t d n)
-    ∷ []
+questions v lent (Close d n) = heldBlockQuestions (v .table) d n
+questions v lent (Free d n) = heldBlockQuestions (v .table) d n
 questions v lent (WriteByPlacement d p start count) =
     let t = v .table in
     let new = newBlocks t d p (count .0) in
