@@ -1,8 +1,8 @@
 -- Document 01, "Blocks": the changes of a block's record. "Each block goes from state to state only by these."
 use Prim.Native.Nat.{ℕ, _+_, _-_, min}
-use mathlib.Core.Bool.{Bool, true, false, cond}
+use mathlib.Core.Bool.{Bool, true, false, _&&_, cond}
 use mathlib.Core.List.{List, [], _∷_}
-use lib.Dec.{ltb}
+use lib.Dec.{eqb, ltb}
 use Rattle.geometry.specs.Shape.{adus}
 use Rattle.geometry.specs.declared.shape.Adus.{Adus}
 use Rattle.model.specs.declared.block.Block.{Block}
@@ -94,3 +94,19 @@ opens (writing count capacity) = false
 opens closing = false
 opens freeing = false
 opens (counting seconds) = false
+
+-- A change that, if it opens the block, does so for this holder, with a serial above the last one and for this period.
+abbrev pub opensNewly : ℕ → ℕ → ℕ → Change → Bool
+opensNewly holder last period (opening h way serial p) = eqb h holder && ltb last serial && eqb p period
+opensNewly holder last period (writing count capacity) = true
+opensNewly holder last period closing = true
+opensNewly holder last period freeing = true
+opensNewly holder last period (counting seconds) = true
+
+unfoldable pub allChanges : (Change → Bool) → List Change → Bool
+allChanges p [] = true
+allChanges p (x ∷ xs) = p x && allChanges p xs
+
+-- A block that this holder has with a serial above the last one.
+abbrev pub hasNewSerial : ℕ → ℕ → Block → Bool
+hasNewSerial holder last b = eqb (b .holder) holder && ltb last (b .serial)

@@ -61,6 +61,9 @@ block-changed-below change t n e l = get-changed-below change (size t) (t .block
 pub domain-cleared : (t : Table) (d : ℕ) → domainAt (withDomain d clearDomain t) d ≡ clearDomain
 domain-cleared t d = get-set-default (t .domains) (d - 1) clearDomain
 
+pub domain-set : (P : Domain → Type 0) (t : Table) (d : ℕ) (r : Domain) → P (domainAt t d) → P r → P (domainAt (withDomain d r t) d)
+domain-set P t d r old new = get-set P (t .domains) (d - 1) (d - 1) r clearDomain old (λ e. new)
+
 -- Another domain's record is as it was.
 pub domain-other : (t : Table) (d e : ℕ) (r : Domain) → 0 < d → 0 < e → ¬ (d ≡ e) → domainAt (withDomain d r t) e ≡ domainAt t e
 domain-other t d e r p q ne = getD-set-other (t .domains) (d - 1) (e - 1) r clearDomain (λ same. ne (omega (arith, same)))

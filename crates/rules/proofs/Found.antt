@@ -5,11 +5,11 @@ use mathlib.Core.List.{List, [], _∷_, nil≢cons}
 use mathlib.Core.Option.{Option, none, some, Option·some-injective}
 use mathlib.Core.Path.{_≡_, refl, sym, ap, _∙_, subst}
 use native.Mathlib.Omega.{arith}
-use lib.Dec.{eqb, ltb}
+use lib.Dec.{eqb, leb, ltb}
 use borrow.Author.Tests.{eqb-true, leb-true, ltb-true, ne-eqb}
-use lib.ListN.{drop, getD, length, length-take, take}
+use lib.ListN.{drop, getD, length, length-drop, length-take, take}
 use Rattle.geometry.proofs.Laws.Address.{fields, fields-word}
-use Rattle.geometry.proofs.Laws.Shape.{Limits, both, by-test, limits}
+use Rattle.geometry.proofs.Laws.Shape.{Limits, both, by-test, is-between, limits}
 use Rattle.geometry.specs.Address.{fieldsOf, isBlock}
 use Rattle.geometry.specs.Questions.{answered}
 use Rattle.geometry.specs.Shape.{adus, adusPerBlock, between, storeLength, stretchStart}
@@ -30,7 +30,7 @@ use Rattle.rules.specs.Counting.{allTo}
 use Rattle.rules.specs.Drive.{Drive, blockAt, heldBy, isErasedState, isFreeState, isOpenFor, isPlacedState, openBlock, openBlockTo, size}
 use Rattle.rules.specs.Effects.{answerTo, driveAfter, effect, erasing, verdict, wordsFilled}
 use Rattle.rules.specs.Questions.{Lengths, isCount, questions, storeFits}
-use Rattle.rules.specs.Soundness.{countsKept}
+use Rattle.rules.specs.Soundness.{countsKept, freeIsClear}
 use Rattle.rules.proofs.Blocks.{Choice, choice}
 use Rattle.rules.proofs.Counting.{all-each, length-row}
 use Rattle.rules.proofs.Effects.{written-length}
@@ -212,3 +212,53 @@ read-expected v lent d address count expected e told =
     (answered-yes v lent (Read d address count expected) 9 e)
     (ne-eqb expected allOnes told) in
     rw e (λ i l. eqb-true (getD entries i 0) (userAddress expected i) (all-each (length entries) _ same i l))
+
+-- ---- As many words as ADUs
+
+pub block-words : (v : Drive) (lent : Lengths) (d n start : ℕ) (count : Adus) → verdict v lent (WriteByBlock d n start count) ≡ 0
+    → length (wordsFilled v lent (WriteByBlock d n start count)) ≡ count .0
+unfolding wordsFilled effect
+block-words v lent d n start count e =
+    let users = userAddresses start (count .0) in
+    rw e (written-length d n users v ∙ length-row (userAddress start) (count .0))
+
+-- A block of which something is written is not Free, and has no more written than it holds.
+written-most : (c period : ℕ) (s : State) (b : Block) → b .state ≡ s → countsKept c period s b ≡ true → freeIsClear b ≡ true
+    → 0 < b .written .0 → b .written .0 ≤ c
+written-most c period Free b same counts clear p =
+    let no-holder = eqb (b .holder) 0 in
+    let unwritten = eqb (b .written .0) 0 in
+    let no-seconds = eqb (b .left) 0 in
+    let all : no-holder && unwritten && no-seconds && eqb (b .serial) 0 ≡ true = rw same at clear in
+    let three = both (no-holder && unwritten && no-seconds) (eqb (b .serial) 0) all .0 in
+    let two = both (no-holder && unwritten) no-seconds three .0 in
+    omega (arith, eqb-true (b .written .0) 0 (both no-holder unwritten two .1))
+written-most c period (Open way) b same counts clear p =
+    let l = ltb-true (b .written .0) c (both (ltb (b .written .0) c) (between 1 period (b .left)) counts .0) in omega (arith, l)
+written-most c period (Closed way) b same counts clear p =
+    leb-true (b .written .0) c (both (leb (b .written .0) c) (eqb (b .left) 0) counts .0)
+
+pub read-words : (v : Drive) (lent : Lengths) (d address : ℕ) (count : Adus) (expected : ℕ)
+    → length (v .store) ≡ lent .store
+    → verdict v lent (Read d address count expected) ≡ 0
+    → length (wordsFilled v lent (Read d address count expected)) ≡ count .0
+unfolding questions effect wordsFilled
+read-words v lent d address count expected own e =
+    let k = Read d address count expected in
+    let t = v .table in
+    let c = t .config in
+    let a = fieldsOf c address in
+    let b = blockAt t (a .block) in
+    let clauses = apart t (answered-yes v lent k 0 e) in
+    let whole = eqb-true (lent .store) (storeLength c .0) (answered-yes v lent k 1 e) in
+    let ranges = both _ _ (answered-yes v lent k 4 e) in
+    let places = both _ _ (ranges .0) in
+    let n : a .block < c .blocks = ltb-true (a .block) (c .blocks) (places .0) in
+    let counted = is-between 1 256 (count .0) (ranges .1) in
+    let ends = leb-true (a .offset .0 + count .0) (b .written .0) (answered-yes v lent k 8 e) in
+    let most =
+    written-most (adusPerBlock c .0) (c .period) (b .state) b refl
+    (all-each (size t) _ (clauses .counts) (a .block) n)
+    (all-each (size t) _ (clauses .free-clear) (a .block) n)
+    (omega (arith, ends, counted .least)) in
+    rw (e, length-take, length-drop) (omega (arith, ends, most, inside c (a .block) n, own, whole))

@@ -12,8 +12,8 @@ use Rattle.geometry.specs.declared.address.FlashAddress.{FlashAddress}
 use Rattle.geometry.specs.declared.shape.Adus.{Adus}
 use Rattle.geometry.specs.declared.shape.Config.{Config}
 use Rattle.geometry.specs.declared.shape.Planes.{Planes}
-use Rattle.model.proofs.Laws.{not-erased-not-rewound}
-use Rattle.model.specs.Blocks.{countedDown}
+use Rattle.model.proofs.Laws.{old-not-rewound}
+use Rattle.model.specs.Blocks.{countedDown, hasNewSerial}
 use Rattle.model.specs.declared.command.Command.{Command}
 use Rattle.model.specs.declared.command.Command.the-variants.{Delete, Erase, Pulse, Read, WriteByBlock, WriteByPlacement}
 use Rattle.model.specs.declared.command.Listed.the-variants as listed
@@ -97,21 +97,23 @@ chosen-least t n chosen = subst (blocks.Choice t (size t)) chosen (blocks.choice
 pub none-chosen : (t : Table) → chosenBlock t ≡ none → (n : ℕ) → n < size t → isFree (blockAt t n) ≡ false
 none-chosen t nothing = subst (blocks.Choice t (size t)) nothing (blocks.choice t (size t))
 
--- Each block goes from state to state only by the changes of a block's record.
+-- Each block goes from state to state only by the changes of a block's record; it is opened for the command's own domain alone,
+-- with a new serial of that and for T seconds.
 pub only-by-changes : (v : Drive) (lent : Lengths) (c : Command) (n : ℕ)
-    → Reached (blockAt (v .table) n) (blockAt (driveAfter v lent c .table) n)
+    → Reached (ownDomain c) (domainAt (v .table) (ownDomain c) .last) (v .table .config .period)
+    (blockAt (v .table) n)
+    (blockAt (driveAfter v lent c .table) n)
 only-by-changes v lent c n = runs.follows v lent c .reached n
 
--- A block whose P/E count did not rise has no more seconds left than before: no write, no Close and no refused command winds
--- the countdown up again. (Of a saturated count it cannot be told whether it rose.)
+-- A block without a new serial of the command's own domain has no more seconds left than before: no write, no Close and no
+-- refused command winds the countdown up again.
 pub never-rewound : (v : Drive) (lent : Lengths) (c : Command) (n : ℕ)
-    → blockAt (v .table) n .erases < 4294967295
-    → blockAt (driveAfter v lent c .table) n .erases ≡ blockAt (v .table) n .erases
+    → hasNewSerial (ownDomain c) (domainAt (v .table) (ownDomain c) .last) (blockAt (driveAfter v lent c .table) n) ≡ false
     → blockAt (driveAfter v lent c .table) n .left ≤ blockAt (v .table) n .left
-never-rewound v lent c n fewer same =
-    let b = blockAt (v .table) n in
+never-rewound v lent c n old =
     let by = only-by-changes v lent c n in
-    rw (by .1) (not-erased-not-rewound (by .0) b fewer (rw (by .1) at same))
+    rw (by .1)
+    (old-not-rewound (ownDomain c) _ _ (by .0) (blockAt (v .table) n) (by .2) (rw (by .1) at old))
 
 -- A command leaves every other domain's record alone: its guarantee, its quota, its limits and its last serial.
 pub neighbours-unchanged : (v : Drive) (lent : Lengths) (c : Command) (d : ℕ)
@@ -149,7 +151,14 @@ pub deleted-gone : (v : Drive) (lent : Lengths) (d : ℕ)
     → Gone d (v .table) (driveAfter v lent (Delete d) .table)
 deleted-gone v lent d accepted = runs.deleted-gone v lent d accepted
 
--- An accepted Read gives the user addresses that were expected, unless all ones was, which matches anything.
+-- An accepted Read gives as many user addresses as it asks for, those that were expected, unless all ones was, which matches
+-- anything.
+pub read-words : (v : Drive) (lent : Lengths) (d address : ℕ) (count : Adus) (expected : ℕ)
+    → length (v .store) ≡ lent .store
+    → let c = Read d address count expected in
+    verdict v lent c ≡ 0 → length (wordsFilled v lent c) ≡ count .0
+read-words v lent d address count expected own accepted = found.read-words v lent d address count expected own accepted
+
 pub read-expected : (v : Drive) (lent : Lengths) (d address : ℕ) (count : Adus) (expected : ℕ)
     → let c = Read d address count expected in
     verdict v lent c ≡ 0
@@ -169,7 +178,7 @@ module _ (v : Drive) (lent : Lengths) (whole : size (v .table) ≤ length (v .ta
       → stored (driveAfter v lent (Erase d n)) a 1 ≡ allOnes ∷ []
   erased-all-ones d n m accepted answer a same inside = found.erase-found v lent whole own d n m accepted answer a same inside
 
-  -- Each flash address that an accepted write hands back holds its user address.
+  -- Each flash address that an accepted write hands back holds its user address; Write by block hands back one for each ADU.
   pub written-by-placement : (d p start : ℕ) (count : Adus)
       → let c = WriteByPlacement d p start count in
       verdict v lent c ≡ 0 → Found (driveAfter v lent c) (wordsFilled v lent c) (userAddresses start (count .0))
@@ -179,3 +188,8 @@ module _ (v : Drive) (lent : Lengths) (whole : size (v .table) ≤ length (v .ta
       → let c = WriteByBlock d n start count in
       verdict v lent c ≡ 0 → Found (driveAfter v lent c) (wordsFilled v lent c) (userAddresses start (count .0))
   written-by-block d n start count accepted = found.block-found v lent whole own d n start count accepted
+
+pub block-words : (v : Drive) (lent : Lengths) (d n start : ℕ) (count : Adus)
+    → let c = WriteByBlock d n start count in
+    verdict v lent c ≡ 0 → length (wordsFilled v lent c) ≡ count .0
+block-words v lent d n start count accepted = found.block-words v lent d n start count accepted

@@ -1,19 +1,17 @@
 -- Each block goes from state to state only by the changes of a block's record, none of them but opening winds a countdown up
 -- again, and a command leaves every other domain's record alone.
-use Prim.Native.Nat.{ℕ, zero, suc, _<_}
+use Prim.Native.Nat.{ℕ, zero, suc, _≤_, _<_}
 use mathlib.Core.Bool.{Bool, true, false, true≢false}
 use mathlib.Core.List.{List, [], _∷_, _++_}
 use mathlib.Core.Option.{Option, none, some}
 use mathlib.Core.Path.{_≡_, refl, sym, _∙_}
 use native.Mathlib.Omega.{arith}
 use lib.ListN.{drop, length, take}
-use borrow.Author.Tests.{eqb-true}
-use Rattle.geometry.proofs.Laws.Questions.{all-yes}
-use Rattle.geometry.proofs.Laws.Shape.{by-test, is-between}
+use borrow.Author.Tests.{eq-eqb, eqb-true, lt-ltb}
+use Rattle.geometry.proofs.Laws.Shape.{both, by-test, is-between}
 use Rattle.geometry.specs.Address.{isDomainId}
-use Rattle.geometry.specs.Questions.{Question, ask, firstNo}
 use Rattle.geometry.specs.Shape.{adus, adusPerBlock}
-use Rattle.model.specs.Blocks.{Change, changed, changedBy, countedDown, countedFrom, closing, counting, freeing, opening, writing}
+use Rattle.model.specs.Blocks.{Change, allChanges, changed, changedBy, countedDown, countedFrom, closing, counting, freeing, opening, opensNewly, writing}
 use Rattle.model.specs.declared.block.Block.{Block}
 use Rattle.model.specs.declared.block.State.{State}
 use Rattle.model.specs.declared.block.State.the-variants as state
@@ -24,7 +22,7 @@ use Rattle.model.specs.declared.command.Command.the-variants.{ChangeCapacity, C
 use Rattle.model.specs.declared.command.Command.the-variants.{WriteByBlock, WriteByPlacement}
 use Rattle.model.specs.declared.table.Domain.{Domain}
 use Rattle.model.specs.declared.table.Table.{Table}
-use Rattle.rules.specs.Blocks.{chosenBlock, erasedBlock, nextSerial, newBlocks, openedFor, room, userAddresses, writtenByPlacement, writtenFirst, writtenInto, writtenNext, writtenOnwards}
+use Rattle.rules.specs.Blocks.{chosenBlock, erasedBlock, nextSerial, newBlocks, openedFor, withLast, room, userAddresses, writtenByPlacement, writtenFirst, writtenInto, writtenNext, writtenOnwards}
 use Rattle.rules.specs.Claims.{Gone, Reached}
 use Rattle.rules.specs.Domains.{deletedDomain}
 use Rattle.rules.specs.Drive.{Drive, blockAt, capacity, domainAt, heldBy, isOpen, isOpenState, openBlock, size, withBlock, withDomain, withEachBlock}
@@ -32,148 +30,185 @@ use Rattle.rules.specs.Effects.{accepted, driveAfter, effect, erasing, v
 use Rattle.rules.specs.Questions.{Lengths, questions}
 use Rattle.rules.specs.Runs.{ownDomain}
 use Rattle.rules.proofs.Domains.{deleted-clear, deleted-holds-nothing, deleted-others}
-use Rattle.rules.proofs.Drive.{block-changed, block-changed-below, block-set, domain-other}
+use Rattle.rules.proofs.Drive.{block-changed, block-changed-below, block-set, domain-other, domain-set}
 use Rattle.rules.proofs.Effects.{accepted-drive}
+use Rattle.rules.proofs.Questions.{answered-yes}
 
 several : (xs ys : List Change) (b : Block) → changedBy (xs ++ ys) b ≡ changedBy ys (changedBy xs b)
 unfolding changedBy
 several [] ys b = refl
 several (x ∷ xs) ys b = several xs ys (changed x b)
 
-stay : (b : Block) → Reached b b
-unfolding changedBy
-stay b = ([], refl)
+all-several : (p : Change → Bool) (xs ys : List Change) → allChanges p xs ≡ true → allChanges p ys ≡ true → allChanges p (xs ++ ys) ≡ true
+unfolding allChanges
+all-several p [] ys e f = f
+all-several p (x ∷ xs) ys e f = let h = both (p x) (allChanges p xs) e in rw (h .0) (all-several p xs ys (h .1) f)
 
-by-one : (x : Change) (b : Block) → Reached b (changed x b)
-unfolding changedBy
-by-one x b = (x ∷ [], refl)
+-- A command's own domain d, and its last serial and the period as the command begins.
+module _ (d last period : ℕ) where
+  abbrev Reaches : Block → Block → Type 0
+  Reaches = Reached d last period
 
--- A table in which each block was reached from what it was, and no record of a domain but d changed.
-pub record Follows (d : ℕ) (t u : Table) : Type 0 where
-  pub reached : (m : ℕ) → Reached (blockAt t m) (blockAt u m)
-  pub others : (e : ℕ) → 0 < e → ¬ (d ≡ e) → domainAt u e ≡ domainAt t e
+  stay : (b : Block) → Reaches b b
+  unfolding allChanges changedBy
+  stay b = ([], refl, refl)
 
-same : (d : ℕ) (t : Table) → Follows d t t
-same d t = record { reached = λ m. stay (blockAt t m); others = λ e p ne. refl }
+  by-one : (x : Change) (b : Block) → opensNewly d last period x ≡ true → Reaches b (changed x b)
+  unfolding allChanges changedBy
+  by-one x b e = (x ∷ [], refl, rw e)
 
-then : {d : ℕ} {t u w : Table} → Follows d t u → Follows d u w → Follows d t w
-then {t = t} f g = record {
-  reached = λ m.
-      let a = f .reached m in
-      let b = g .reached m in
-      (a .0 ++ b .0, b .1 ∙ (rw (a .1) (sym (several (a .0) (b .0) (blockAt t m)))));
-  others = λ e p ne. g .others e p ne ∙ f .others e p ne;
-}
+  -- A table in which each block was reached from what it was, and no record of a domain but d changed.
+  pub record Follows (t u : Table) : Type 0 where
+    pub reached : (m : ℕ) → Reaches (blockAt t m) (blockAt u m)
+    pub others : (e : ℕ) → 0 < e → ¬ (d ≡ e) → domainAt u e ≡ domainAt t e
 
-block : (d : ℕ) (t : Table) (n : ℕ) (x : Change) → Follows d t (withBlock n (changed x (blockAt t n)) t)
-block d t n x = record {
-  reached = λ m. block-set (Reached (blockAt t m)) t n m (changed x (blockAt t n)) (stay (blockAt t m)) (λ e. rw e (by-one x (blockAt t n)));
-  others = λ e p ne. refl;
-}
+  same : (t : Table) → Follows t t
+  same t = record { reached = λ m. stay (blockAt t m); others = λ e p ne. refl }
 
-domain : (d : ℕ) (t : Table) (r : Domain) → 0 < d → Follows d t (withDomain d r t)
-domain d t r p = record {
-  reached = λ m. stay (blockAt t m);
-  others = λ e q ne. domain-other t d e r p q ne;
-}
+  then : {t u w : Table} → Follows t u → Follows u w → Follows t w
+  then {t} f g = record {
+    reached = λ m.
+        let a = f .reached m in
+        let b = g .reached m in (
+          a .0 ++ b .0,
+          b .1 ∙ (rw (a .1) (sym (several (a .0) (b .0) (blockAt t m)))),
+          all-several (opensNewly d last period) (a .0) (b .0) (a .2) (b .2),
+        );
+    others = λ e p ne. g .others e p ne ∙ f .others e p ne;
+  }
 
-each-block : (d : ℕ) (t : Table) (change : Block → Block) → ((b : Block) → Reached b (change b)) → Follows d t (withEachBlock change t)
-each-block d t change h = record {
-  reached = λ m. block-changed (Reached (blockAt t m)) change t m (stay (blockAt t m)) (h (blockAt t m));
-  others = λ e p ne. refl;
-}
+  block : (t : Table) (n : ℕ) (x : Change) → opensNewly d last period x ≡ true → Follows t (withBlock n (changed x (blockAt t n)) t)
+  block t n x new = record {
+    reached = λ m.
+        block-set (Reaches (blockAt t m)) t n m (changed x (blockAt t n)) (stay (blockAt t m)) (λ e. rw e (by-one x (blockAt t n) new));
+    others = λ e p ne. refl;
+  }
 
--- ---- What each command does follows.
+  domain : (t : Table) (r : Domain) → 0 < d → Follows t (withDomain d r t)
+  domain t r p = record {
+    reached = λ m. stay (blockAt t m);
+    others = λ e q ne. domain-other t d e r p q ne;
+  }
 
-opened-follows : (d : ℕ) (way : Way) (n : ℕ) (v : Drive) → 0 < d → Follows d (v .table) (openedFor d way n v .table)
-unfolding openedFor
-opened-follows d way n v p =
-    let t = v .table in
-    then (block d t n (opening d way (nextSerial t d) (t .config .period))) (domain d _ _ p)
+  each-block : (t : Table) (change : Block → Block) → ((b : Block) → Reaches b (change b)) → Follows t (withEachBlock change t)
+  each-block t change h = record {
+    reached = λ m. block-changed (Reaches (blockAt t m)) change t m (stay (blockAt t m)) (h (blockAt t m));
+    others = λ e p ne. refl;
+  }
 
-written-follows : (d n : ℕ) (users : List ℕ) (v : Drive) → Follows d (v .table) (writtenInto d n users v .drive .table)
-unfolding writtenInto
-written-follows d n users v = block d (v .table) n (writing (adus (length users)) (capacity (v .table) n))
+  -- ---- What each command does follows.
 
-first-follows : (d : ℕ) (found : Option ℕ) (users : List ℕ) (v : Drive) → Follows d (v .table) (writtenFirst d found users v .drive .table)
-first-follows d none users v = same d (v .table)
-first-follows d (some n) users v = written-follows d n users v
+  -- A table on the way through a command: the serial has not fallen, and the period is the same.
+  record OnTheWay (t : Table) : Type 0 where
+    serial : last ≤ domainAt t d .last
+    seconds : t .config .period ≡ period
 
-next-follows : (d p : ℕ) (found : Option ℕ) (users : List ℕ) (v : Drive) → 0 < d
-    → Follows d (v .table) (writtenNext d p found users v .drive .table)
-next-follows d p none users v q = same d (v .table)
-next-follows d p (some n) users v q =
-    let o = openedFor d (Placement p) n v in then (opened-follows d (Placement p) n v q) (written-follows d n users o)
+  opened-follows : (way : Way) (n : ℕ) (v : Drive) → 0 < d → OnTheWay (v .table) → Follows (v .table) (openedFor d way n v .table)
+  unfolding openedFor
+  opened-follows way n v p o =
+      let t = v .table in
+      let new : opensNewly d last period (opening d way (nextSerial t d) (t .config .period)) ≡ true =
+      rw (eq-eqb d d refl, lt-ltb last (nextSerial t d) (omega (arith, o .serial)), eq-eqb (t .config .period) period (o .seconds)) in
+      then (block t n (opening d way (nextSerial t d) (t .config .period)) new) (domain _ _ p)
 
-onwards-follows : (d p more : ℕ) (users : List ℕ) (v : Drive) → 0 < d
-    → Follows d (v .table) (writtenOnwards d p more users v .drive .table)
-unfolding writtenOnwards
-onwards-follows d p zero users v q = same d (v .table)
-onwards-follows d p (suc more) users v q =
-    let perBlock = adusPerBlock (v .table .config) .0 in
-    let next = writtenNext d p (chosenBlock (v .table)) (take perBlock users) v in
-    then (next-follows d p (chosenBlock (v .table)) (take perBlock users) v q)
-    (onwards-follows d p more (drop perBlock users) (next .drive) q)
+  opened-on : (way : Way) (n : ℕ) (v : Drive) → OnTheWay (v .table) → OnTheWay (openedFor d way n v .table)
+  unfolding openedFor
+  opened-on way n v o = record {
+    serial =
+        domain-set (λ r. last ≤ r .last) (v .table) d (withLast (nextSerial (v .table) d) (domainAt (v .table) d))
+        (o .serial) (omega (arith, o .serial));
+    seconds = o .seconds;
+  }
 
-placement-follows : (d p : ℕ) (users : List ℕ) (v : Drive) → 0 < d
-    → Follows d (v .table) (writtenByPlacement d p users v .drive .table)
-unfolding writtenByPlacement
-placement-follows d p users v q =
-    let t = v .table in
-    let first = writtenFirst d (openBlock t d p) (take (room t d p) users) v in
-    then (first-follows d (openBlock t d p) (take (room t d p) users) v)
-    (onwards-follows d p (newBlocks t d p (length users)) (drop (room t d p) users) (first .drive) q)
+  written-follows : (n : ℕ) (users : List ℕ) (v : Drive) → Follows (v .table) (writtenInto d n users v .drive .table)
+  unfolding writtenInto
+  written-follows n users v = block (v .table) n (writing (adus (length users)) (capacity (v .table) n)) refl
 
-erasing-follows : (d : ℕ) (found : Option ℕ) (v : Drive) → 0 < d → Follows d (v .table) (erasing d found v .drive .table)
-erasing-follows d none v p = same d (v .table)
-erasing-follows d (some n) v p = opened-follows d _ n v p
+  written-on-way : (n : ℕ) (users : List ℕ) (v : Drive) → OnTheWay (v .table) → OnTheWay (writtenInto d n users v .drive .table)
+  unfolding writtenInto
+  written-on-way n users v o = record { serial = o .serial; seconds = o .seconds }
 
-deleted-follows : (d : ℕ) (t : Table) → 0 < d → Follows d t (deletedDomain d t)
-unfolding deletedDomain
-deleted-follows d t p =
-    then
-    (each-block d t _ (λ b. by-test (heldBy d b) (λ e. rw e (by-one freeing b)) (λ e. rw e (stay b))))
-    (domain d _ _ p)
+  first-follows : (found : Option ℕ) (users : List ℕ) (v : Drive) → OnTheWay (v .table)
+      → let t = writtenFirst d found users v .drive .table in Follows (v .table) t × OnTheWay t
+  first-follows none users v o = (same (v .table), o)
+  first-follows (some n) users v o = (written-follows n users v, written-on-way n users v o)
 
--- ---- An accepted command's own domain is a domain ID.
+  next-follows : (p : ℕ) (found : Option ℕ) (users : List ℕ) (v : Drive) → 0 < d → OnTheWay (v .table)
+      → let t = writtenNext d p found users v .drive .table in Follows (v .table) t × OnTheWay t
+  next-follows p none users v q o = (same (v .table), o)
+  next-follows p (some n) users v q o =
+      let opened = openedFor d (Placement p) n v in
+      let on = opened-on (Placement p) n v o in
+      (then (opened-follows (Placement p) n v q o) (written-follows n users opened), written-on-way n users opened on)
 
+  onwards-follows : (p more : ℕ) (users : List ℕ) (v : Drive) → 0 < d → OnTheWay (v .table)
+      → Follows (v .table) (writtenOnwards d p more users v .drive .table)
+  unfolding writtenOnwards
+  onwards-follows p zero users v q o = same (v .table)
+  onwards-follows p (suc more) users v q o =
+      let perBlock = adusPerBlock (v .table .config) .0 in
+      let next = writtenNext d p (chosenBlock (v .table)) (take perBlock users) v in
+      let here = next-follows p (chosenBlock (v .table)) (take perBlock users) v q o in
+      then (here .0) (onwards-follows p more (drop perBlock users) (next .drive) q (here .1))
+
+  placement-follows : (p : ℕ) (users : List ℕ) (v : Drive) → 0 < d → OnTheWay (v .table)
+      → Follows (v .table) (writtenByPlacement d p users v .drive .table)
+  unfolding writtenByPlacement
+  placement-follows p users v q o =
+      let t = v .table in
+      let first = writtenFirst d (openBlock t d p) (take (room t d p) users) v in
+      let here = first-follows (openBlock t d p) (take (room t d p) users) v o in
+      then (here .0) (onwards-follows p (newBlocks t d p (length users)) (drop (room t d p) users) (first .drive) q (here .1))
+
+  erasing-follows : (found : Option ℕ) (v : Drive) → 0 < d → OnTheWay (v .table) → Follows (v .table) (erasing d found v .drive .table)
+  erasing-follows none v p o = same (v .table)
+  erasing-follows (some n) v p o = opened-follows _ n v p o
+
+  deleted-follows : (t : Table) → 0 < d → Follows t (deletedDomain d t)
+  unfolding deletedDomain
+  deleted-follows t p =
+      then
+      (each-block t _ (λ b. by-test (heldBy d b) (λ e. rw e (by-one freeing b refl)) (λ e. rw e (stay b))))
+      (domain _ _ p)
+
+-- An accepted command's own domain is a domain ID.
 positive : (d : ℕ) → isDomainId d ≡ true → 0 < d
 positive d e = is-between 1 16 d e .least
 
-second : (a : Bool) (d : ℕ) (qs : List Question) → firstNo (ask 2 a ∷ ask 4 (isDomainId d) ∷ qs) ≡ 0 → 0 < d
-second a d qs e =
-    let r = all-yes 2 a (ask 4 (isDomainId d) ∷ qs) (omega arith) e .1 in
-    positive d (all-yes 4 (isDomainId d) qs (omega arith) r .0)
+-- What a command leaves follows from its own domain's last serial and the period, as they are when it begins.
+abbrev pub FollowsFrom : Command → Table → Table → Type 0
+FollowsFrom c t u = Follows (ownDomain c) (domainAt t (ownDomain c) .last) (t .config .period) t u
 
-third : (a s : Bool) (d : ℕ) (qs : List Question) → firstNo (ask 2 a ∷ ask 3 s ∷ ask 4 (isDomainId d) ∷ qs) ≡ 0 → 0 < d
-third a s d qs e =
-    let r = all-yes 2 a (ask 3 s ∷ ask 4 (isDomainId d) ∷ qs) (omega arith) e .1 in
-    let q = all-yes 3 s (ask 4 (isDomainId d) ∷ qs) (omega arith) r .1 in
-    positive d (all-yes 4 (isDomainId d) qs (omega arith) q .0)
+begins : (t : Table) (d : ℕ) → OnTheWay d (domainAt t d .last) (t .config .period) t
+begins t d = record { serial = omega arith; seconds = refl }
 
-effect-follows : (v : Drive) (lent : Lengths) (c : Command) → verdict v lent c ≡ 0
-    → Follows (ownDomain c) (v .table) (effect c v .drive .table)
+effect-follows : (v : Drive) (lent : Lengths) (c : Command) → verdict v lent c ≡ 0 → FollowsFrom c (v .table) (effect c v .drive .table)
 unfolding questions effect
-effect-follows v lent (Create d guarantee quota placements limit) e = domain d (v .table) _ (second _ d _ e)
-effect-follows v lent (ChangeCapacity d guarantee quota) e = domain d (v .table) _ (second _ d _ e)
-effect-follows v lent (Delete d) e = deleted-follows d (v .table) (second _ d _ e)
-effect-follows v lent (Erase d n) e = erasing-follows d (erasedBlock (v .table) n) v (third _ _ d _ e)
-effect-follows v lent (Close d n) e = block d (v .table) n closing
-effect-follows v lent (Free d n) e = block d (v .table) n freeing
+effect-follows v lent (Create d guarantee quota placements limit) e =
+    domain d _ _ (v .table) _ (positive d (answered-yes v lent (Create d guarantee quota placements limit) 1 e))
+effect-follows v lent (ChangeCapacity d guarantee quota) e =
+    domain d _ _ (v .table) _ (positive d (answered-yes v lent (ChangeCapacity d guarantee quota) 1 e))
+effect-follows v lent (Delete d) e = deleted-follows d _ _ (v .table) (positive d (answered-yes v lent (Delete d) 1 e))
+effect-follows v lent (Erase d n) e =
+    erasing-follows d _ _ (erasedBlock (v .table) n) v (positive d (answered-yes v lent (Erase d n) 2 e)) (begins (v .table) d)
+effect-follows v lent (Close d n) e = block d _ _ (v .table) n closing refl
+effect-follows v lent (Free d n) e = block d _ _ (v .table) n freeing refl
 effect-follows v lent (WriteByPlacement d p start count) e =
-    placement-follows d p (userAddresses start (count .0)) v (third _ _ d _ e)
-effect-follows v lent (WriteByBlock d n start count) e = written-follows d n (userAddresses start (count .0)) v
-effect-follows v lent (Read d address count expected) e = same d (v .table)
-effect-follows v lent (Page d n) e = same d (v .table)
-effect-follows v lent (Listing d which) e = same d (v .table)
-effect-follows v lent (Pulse seconds) e = each-block 0 (v .table) _ (λ b. by-one (counting seconds) b)
+    placement-follows d _ _ p (userAddresses start (count .0)) v
+    (positive d (answered-yes v lent (WriteByPlacement d p start count) 2 e))
+    (begins (v .table) d)
+effect-follows v lent (WriteByBlock d n start count) e = written-follows d _ _ n (userAddresses start (count .0)) v
+effect-follows v lent (Read d address count expected) e = same d _ _ (v .table)
+effect-follows v lent (Page d n) e = same d _ _ (v .table)
+effect-follows v lent (Listing d which) e = same d _ _ (v .table)
+effect-follows v lent (Pulse seconds) e = each-block 0 _ _ (v .table) _ (λ b. by-one 0 _ _ (counting seconds) b refl)
 
-pub follows : (v : Drive) (lent : Lengths) (c : Command) → Follows (ownDomain c) (v .table) (driveAfter v lent c .table)
+pub follows : (v : Drive) (lent : Lengths) (c : Command) → FollowsFrom c (v .table) (driveAfter v lent c .table)
 unfolding driveAfter
 follows v lent c =
     by-test (accepted v lent c)
     (λ e. rw e (effect-follows v lent c (eqb-true (verdict v lent c) 0 e)))
-    (λ e. rw e (same (ownDomain c) (v .table)))
+    (λ e. rw e (same (ownDomain c) _ _ (v .table)))
 
 -- ---- What Pulse and Delete leave of the blocks
 
@@ -203,7 +238,7 @@ pub deleted-gone : (v : Drive) (lent : Lengths) (d : ℕ) → verdict v lent (De
 unfolding effect questions
 deleted-gone v lent d e =
     let t = v .table in
-    let p = second _ d _ e in
+    let p = positive d (answered-yes v lent (Delete d) 1 e) in
     rw (accepted-drive v lent (Delete d) e)
     (record {
       clear = deleted-clear t d;

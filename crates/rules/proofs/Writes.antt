@@ -82,8 +82,7 @@ module _ (c : Config) where
       shape = r .shape;
       blocks = rw length-set (r .blocks);
       store =
-          length-overwritten (stretchStart (v .table .config) n .0) (replicate (adusPerBlock (v .table .config) .0) allOnes) (v .store)
-          (rw (r .shape, length-replicate) (omega (arith, inside n l, r .store)))
+          length-overwritten _ _ (v .store) (rw (r .shape, length-replicate) (omega (arith, inside n l, r .store)))
           ∙ r .store;
     }
 
@@ -127,7 +126,7 @@ module _ (c : Config) where
     written-ready = record {
       shape = r .shape;
       blocks = rw length-set (r .blocks);
-      store = rw (r .shape) (length-overwritten first users (v .store) (omega (arith, inside n l, r .store, fits)) ∙ r .store);
+      store = length-overwritten _ _ (v .store) (rw (r .shape) (omega (arith, inside n l, r .store, fits))) ∙ r .store;
     }
 
     -- The user addresses stand in the block's entries from the first unwritten one on, ..

@@ -8,7 +8,7 @@ use lib.ListN.{drop, getD, length, replicate, take}
 use Rattle.geometry.specs.Address.{fieldsOf}
 use Rattle.geometry.specs.Bytes.{littleEndian}
 use Rattle.geometry.specs.Questions.{Question, refusal}
-use Rattle.model.specs.Blocks.{Change, changedBy}
+use Rattle.model.specs.Blocks.{Change, allChanges, changedBy, opensNewly}
 use Rattle.model.specs.declared.block.Block.{Block}
 use Rattle.model.specs.declared.table.Table.{Table}
 use Rattle.rules.specs.Blocks.{stored}
@@ -40,9 +40,11 @@ abbrev pub Found : Drive → List ℕ → List ℕ → Type 0
 Found v addresses users =
     (i : ℕ) → i < length addresses → stored v (fieldsOf (v .table .config) (getD addresses i 0)) 1 ≡ getD users i 0 ∷ []
 
--- A record that is reached from another by changes of a block's record.
-abbrev pub Reached : Block → Block → Type 0
-Reached b after = (xs : List Change) × (after ≡ changedBy xs b)
+-- A record that is reached from another by changes of a block's record, where opening is for the domain d, with a serial above
+-- its last one and for this period.
+abbrev pub Reached : ℕ → ℕ → ℕ → Block → Block → Type 0
+Reached d last period b after =
+    (xs : List Change) × (after ≡ changedBy xs b) × (allChanges (opensNewly d last period) xs ≡ true)
 
 -- A domain that is gone: its record is clear, it holds no block, and the blocks of the others are as they were.
 pub record Gone (d : ℕ) (t u : Table) : Type 0 where
@@ -75,9 +77,9 @@ pub record Layout (t : Table) (n : ℕ) (bytes : List ℕ) : Type 0 where
   pub placement : bytesAt 8 2 bytes ≡ littleEndian 2 (placementField (blockAt t n .state))
   pub domain : bytesAt 10 2 bytes ≡ littleEndian 2 (blockAt t n .holder)
   pub index : bytesAt 12 1 bytes ≡ littleEndian 1 (wearIndex (t .config) (blockAt t n .erases))
-  pub health : bytesAt 13 1 bytes ≡ littleEndian 1 (integrity (blockAt t n))
+  pub integrity-index : bytesAt 13 1 bytes ≡ littleEndian 1 (integrity (blockAt t n))
   pub time-left : bytesAt 14 2 bytes ≡ littleEndian 2 0
-  pub all : bytesAt 16 4 bytes ≡ littleEndian 4 (capacity t n .0)
+  pub capacity-adus : bytesAt 16 4 bytes ≡ littleEndian 4 (capacity t n .0)
   pub written : bytesAt 20 4 bytes ≡ littleEndian 4 (cond (isOpen (blockAt t n)) (blockAt t n .written .0) 0)
   pub serial : bytesAt 24 4 bytes ≡ littleEndian 4 (blockAt t n .serial)
   pub rest : drop 28 bytes ≡ replicate 228 0
