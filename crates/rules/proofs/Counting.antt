@@ -32,6 +32,51 @@ unfolding sumTo
 sum-add zero f g = refl
 sum-add (suc n) f g = omega (arith, sum-add n f g)
 
+pub sum-le : (n : ℕ) (f g : ℕ → ℕ) → ((i : ℕ) → i < n → f i ≤ g i) → sumTo f n ≤ sumTo g n
+unfolding sumTo
+sum-le zero f g h = omega arith
+sum-le (suc n) f g h = omega (arith, sum-le n f g (λ i l. h i (omega arith)), h n (omega arith))
+
+-- One term is at most the sum, and two are together at most the sum.
+pub sum-term : (n : ℕ) (f : ℕ → ℕ) (k : ℕ) → k < n → f k ≤ sumTo f n
+unfolding sumTo
+sum-term zero f k l = absurd (omega (arith, l))
+sum-term (suc n) f k l = by-eq k n (λ e. rw e (omega arith)) (λ e. omega (arith, sum-term n f k (omega arith)))
+
+pub sum-two : (n : ℕ) (f : ℕ → ℕ) (i k : ℕ) → i < n → k < n → ¬ (i ≡ k) → f i + f k ≤ sumTo f n
+unfolding sumTo
+sum-two zero f i k l m other = absurd (omega (arith, l))
+sum-two (suc n) f i k l m other =
+    by-eq i n
+    (λ e. rw e (omega (arith, sum-term n f k (by-eq k n (λ same. absurd (other (e ∙ sym same))) (λ g. omega arith)))))
+    (λ e. by-eq k n
+    (λ g. rw g (omega (arith, sum-term n f i (omega arith))))
+    (λ g. omega (arith, sum-two n f i k (omega arith) (omega arith) other)))
+
+-- Two sums of which all terms but one are the same.
+pub sum-at : (n : ℕ) (f g : ℕ → ℕ) (k : ℕ) → k < n → ((i : ℕ) → i < n → ¬ (i ≡ k) → f i ≡ g i) → sumTo f n + g k ≡ sumTo g n + f k
+unfolding sumTo
+sum-at zero f g k l h = absurd (omega (arith, l))
+sum-at (suc n) f g k l h =
+    by-eq k n
+    (λ e. rw e (omega (arith, sum-same n f g (λ i m. h i (omega arith) (λ same. omega arith)))))
+    (λ e. omega (arith, sum-at n f g k (omega arith) (λ i m. h i (omega arith)), h n (omega arith) (λ same. e (sym same))))
+
+-- A sum that is not 0 has a term that is not 0.
+pub sum-some : (n : ℕ) (f : ℕ → ℕ) → 0 < sumTo f n → (k : ℕ) × (k < n) × (0 < f k)
+unfolding sumTo
+sum-some zero f h = absurd (omega (arith, h))
+sum-some (suc n) f h =
+    by-eq (f n) 0
+    (λ e. let r = sum-some n f (omega arith) in (r .0, omega (arith, r .1), r .2))
+    (λ e. (n, omega arith, omega arith))
+
+-- The order of two sums.
+pub sum-swap : (n m : ℕ) (f : ℕ → ℕ → ℕ) → sumTo (λ i. sumTo (f i) m) n ≡ sumTo (λ j. sumTo (λ i. f i j) n) m
+unfolding sumTo
+sum-swap zero m f = sym (sum-zero m _ (λ i l. refl))
+sum-swap (suc n) m f = omega (arith, sum-swap n m f, sum-add m (λ j. sumTo (λ i. f i j) n) (f n))
+
 -- One number below n is one.
 pub count-one : (n m : ℕ) → m < n → countTo (eqb m) n ≡ 1
 unfolding sumTo

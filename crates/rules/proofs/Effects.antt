@@ -71,7 +71,7 @@ fill (Listing d listed.Open) t =
     (listOf t openMark order, record { order = order; each-once = numbers-once (λ n. openOf d (blockAt t n)) (size t); descriptors = refl })
 fill (Pulse seconds) t = ([], refl)
 
-fill-if : (b : Bool) (c : Command) (t : Table) → (bytes : List ℕ) × FillsIf b c t bytes
+pub fill-if : (b : Bool) (c : Command) (t : Table) → (bytes : List ℕ) × FillsIf b c t bytes
 fill-if true c t = fill c t
 fill-if false c t = ([], refl)
 

@@ -13,4 +13,9 @@ pub mod Effects
 pub mod Runs
 pub mod ProvedTable
 pub mod WrongTurns
+pub mod Kept
+pub mod Noninterference
+pub mod Countdown
+pub mod Example
 pub mod Laws
+pub mod Claims

@@ -26,10 +26,10 @@ unfolding started answered firstNo
 start-refused c e = rw e
 
 -- In an empty table every block and every domain is clear, and nothing is held.
-clear-block : (c : Config) (n : ℕ) → blockAt (emptyTable c) n ≡ clearBlock
+pub clear-block : (c : Config) (n : ℕ) → blockAt (emptyTable c) n ≡ clearBlock
 clear-block c n = get-replicate 256 n clearBlock
 
-clear-domain : (c : Config) (d : ℕ) → domainAt (emptyTable c) d ≡ clearDomain
+pub clear-domain : (c : Config) (d : ℕ) → domainAt (emptyTable c) d ≡ clearDomain
 clear-domain c d = get-replicate 16 (d - 1) clearDomain
 
 none-held : (c : Config) (d : ℕ) → 0 < d → heldCount (emptyTable c) d ≡ 0
@@ -60,7 +60,7 @@ no-coverage c =
 is-covered : (c : Config) → covered (emptyTable c) ≡ true
 is-covered c = rw (no-coverage c) (le-leb 0 (c .blocks) (omega arith))
 
-empty-sound : (c : Config) → withinLimits c ≡ true → sound (emptyTable c) ≡ true
+pub empty-sound : (c : Config) → withinLimits c ≡ true → sound (emptyTable c) ≡ true
 empty-sound c e =
     together (emptyTable c) (record {
       limits = e;

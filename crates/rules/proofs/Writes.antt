@@ -2,6 +2,7 @@
 use Prim.Native.Nat.{ℕ, zero, suc, _+_, _-_, _≤_, _<_, min}
 use mathlib.Core.Bool.{true, false, true≢false}
 use mathlib.Core.List.{List, [], _∷_, _++_}
+use mathlib.Core.Logic.{_⊎_, inl, inr}
 use mathlib.Core.Option.{Option, none, some}
 use mathlib.Core.Path.{_≡_, refl, sym, ap, _∙_, subst}
 use native.Mathlib.Nat.{add-assoc, sub-zero}
@@ -136,6 +137,18 @@ module _ (c : Config) where
     written-entry i k =
         rw (r .shape, ← add-assoc (stretchStart c n .0) (blockAt (v .table) n .written .0) i)
         (entry-new first i users (v .store) (omega (arith, inside n l, r .store, fits)) k)
+
+    -- .. those before and behind stay, ..
+    pub written-own : (offset : ℕ) → offset < perBlock
+        → (offset < blockAt (v .table) n .written .0) ⊎ (blockAt (v .table) n .written .0 + length users ≤ offset)
+        → entry c (writtenInto d n users v .drive) n offset ≡ entry c v n offset
+    unfolding writtenInto
+    written-own offset o (inl before) =
+        rw (r .shape)
+        (entry-before first (stretchStart c n .0 + offset) users (v .store) (omega (arith, inside n l, r .store, fits)) (omega (arith, before)))
+    written-own offset o (inr behind) =
+        rw (r .shape)
+        (entry-behind first (stretchStart c n .0 + offset) users (v .store) (omega (arith, inside n l, r .store, fits)) (omega (arith, behind)))
 
     -- .. and every other block and its entries are as they were.
     pub written-other : (m : ℕ) → ¬ (m ≡ n) → blockAt (writtenInto d n users v .drive .table) m ≡ blockAt (v .table) m
@@ -285,7 +298,7 @@ module _ (c : Config) where
   none-written d p (suc more) users v e = rw (e, none-written d p more (drop (adusPerBlock (v .table .config) .0) users) v e)
 
   -- A write, and then another of the user addresses that follow.
-  abbrev andThen : Written → Written → Written
+  abbrev pub andThen : Written → Written → Written
   andThen first rest = record { drive = rest .drive; addresses = first .addresses ++ rest .addresses }
 
   both-held : (d : ℕ) (these those : List ℕ) (first rest : Written)
@@ -322,11 +335,11 @@ module _ (c : Config) where
   in-two : (d k : ℕ) (users : List ℕ) (w : Written) → AllHeld d (take k users ++ drop k users) w → AllHeld d users w
   in-two d k users w h = subst (λ (us : List ℕ). AllHeld d us w) (take-append-drop k users) h
 
-  onwards-zero : (d p : ℕ) (users : List ℕ) (v : Drive) → writtenOnwards d p 0 users v ≡ record { drive = v; addresses = [] }
+  pub onwards-zero : (d p : ℕ) (users : List ℕ) (v : Drive) → writtenOnwards d p 0 users v ≡ record { drive = v; addresses = [] }
   unfolding writtenOnwards
   onwards-zero d p users v = refl
 
-  onwards-some : (d p more m : ℕ) (users : List ℕ) (v : Drive) → Ready c v → chosenBlock (v .table) ≡ some m
+  pub onwards-some : (d p more m : ℕ) (users : List ℕ) (v : Drive) → Ready c v → chosenBlock (v .table) ≡ some m
       → let first = writtenInto d m (take perBlock users) (openedFor d (Placement p) m v) in
       writtenOnwards d p (suc more) users v ≡ andThen first (writtenOnwards d p more (drop perBlock users) (first .drive))
   unfolding writtenOnwards

@@ -9,6 +9,9 @@ pub mod Soundness
 pub mod Questions
 pub mod Effects
 pub mod Runs
+pub mod Observation
+pub mod Noninterference
 pub mod ProvedTable
 pub mod WrongTurns
 pub mod Claims
+pub mod Example

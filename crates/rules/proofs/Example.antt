@@ -1,0 +1,98 @@
+-- The example is as it says, and every list of calls has replies.
+use mathlib.Core.Bool.{true}
+use mathlib.Core.List.{List, [], _∷_}
+use mathlib.Core.Path.{_≡_, refl, ap}
+use Rattle.geometry.specs.Address.{fieldsOf, leastFrom, offsetBits, wordOf}
+use Rattle.geometry.specs.Questions.{answered, firstNo}
+use Rattle.geometry.specs.Shape.{adusPerBlock, drivePlanes, eachInRange, planesPerBlock, storeLength, stretchStart, wholeBlocks, withinLimits}
+use Rattle.model.specs.Blocks.{closed, countedDown, writtenOn}
+use Rattle.rules.specs.Blocks.{chosenTo, matches, newBlocks, openedFor, userAddress, writtenByPlacement, writtenInto, writtenOnwards}
+use Rattle.rules.specs.Counting.{allTo, numbersTo, rowTo, sumTo}
+use Rattle.rules.specs.Domains.{changedDomain, coverage, createdDomain, deletedDomain}
+use Rattle.rules.specs.Drive.{Drive, closedCount, heldCount, openBlockTo, openCount, overwritten}
+use Rattle.rules.specs.Effects.{accepted, answerTo, driveAfter, effect, wordsFilled}
+use Rattle.rules.specs.Example.{NotEmpty, blocksOf, busy, busyHalf, busyNumbers, numbersTold, quiet, quietHalf, quietNumbers, samePlaces, sevens, zeros}
+use Rattle.rules.specs.Noninterference.{Exchange, Replied, calls, fullyReserved, places}
+use Rattle.rules.specs.Observation.{Reply, requestOf}
+use Rattle.rules.specs.Questions.{questions, userAddressesFit}
+use Rattle.rules.specs.Runs.{Call, answers, run, step}
+use Rattle.rules.specs.Soundness.{sound}
+use Rattle.rules.specs.Start.{started}
+use Rattle.rules.proofs.Effects.{fill-if}
+
+-- To unfold this is to unfold every definition that a run computes with.
+machine : Unit {0}
+unfolding fieldsOf leastFrom offsetBits wordOf answered firstNo adusPerBlock drivePlanes eachInRange planesPerBlock storeLength stretchStart wholeBlocks withinLimits closed countedDown writtenOn chosenTo matches newBlocks openedFor userAddress writtenByPlacement writtenInto writtenOnwards allTo numbersTo rowTo sumTo changedDomain coverage createdDomain deletedDomain closedCount heldCount openBlockTo openCount overwritten driveAfter effect fullyReserved places requestOf run answers questions userAddressesFit sound started
+machine = tt
+
+-- ---- The two lists
+
+quiet-reserved : fullyReserved 1 quiet zeros ≡ true
+unfolding machine
+quiet-reserved = refl
+
+busy-reserved : fullyReserved 1 busy sevens ≡ true
+unfolding machine
+busy-reserved = refl
+
+quiet-places : places 1 quiet zeros ≡ samePlaces
+unfolding machine
+quiet-places = refl
+
+busy-places : places 1 busy sevens ≡ samePlaces
+unfolding machine
+busy-places = refl
+
+quiet-halfway : blocksOf (run quietHalf zeros) ≡ (0, 1) ∷ (1, 2) ∷ (2, 3) ∷ []
+unfolding machine
+quiet-halfway = refl
+
+busy-halfway : blocksOf (run busyHalf sevens) ≡ (1, 3) ∷ (5, 1) ∷ (7, 2) ∷ []
+unfolding machine
+busy-halfway = refl
+
+quiet-end : blocksOf (run quiet zeros) ≡ (0, 1) ∷ (1, 4) ∷ (3, 5) ∷ []
+unfolding machine
+quiet-end = refl
+
+busy-end : blocksOf (run busy sevens) ≡ (0, 5) ∷ (5, 1) ∷ (7, 4) ∷ []
+unfolding machine
+busy-end = refl
+
+quiet-numbers : numbersTold quiet zeros ≡ quietNumbers
+unfolding machine
+quiet-numbers = refl
+
+busy-numbers : numbersTold busy sevens ≡ busyNumbers
+unfolding machine
+busy-numbers = refl
+
+pub not-empty : NotEmpty
+not-empty = record {
+  quiet-reserved = quiet-reserved;
+  busy-reserved = busy-reserved;
+  quiet-places = quiet-places;
+  busy-places = busy-places;
+  quiet-halfway = quiet-halfway;
+  busy-halfway = busy-halfway;
+  quiet-end = quiet-end;
+  busy-end = busy-end;
+  quiet-numbers = quiet-numbers;
+  busy-numbers = busy-numbers;
+}
+
+-- ---- Every list of calls has replies.
+
+pub exchanged : (ks : List Call) (v : Drive) → (xs : List Exchange) × (calls xs ≡ ks) × Replied xs v
+unfolding Replied
+exchanged [] v = ([], refl, tt)
+exchanged (k ∷ ks) v =
+    let lent = k .lent in
+    let c = k .command in
+    let rest = exchanged ks (step k v) in
+    let filled = fill-if (accepted v lent c) c (v .table) in
+    let reply : Reply = record { answer = answerTo v lent c; words = wordsFilled v lent c; bytes = filled .0 } in (
+      record { call = k; reply = reply } ∷ rest .0,
+      ap (λ (ls : List Call). k ∷ ls) (rest .1),
+      (record { answers = refl; fills-words = refl; fills-bytes = filled .1 }, rest .2),
+    )

@@ -1,0 +1,297 @@
+-- The changes of one block that commands are made of: closing, freeing, writing into it, opening it. Each leaves a sound table sound.
+use Prim.Native.Nat.{ℕ, zero, suc, _+_, _-_, _≤_, _<_}
+use mathlib.Core.Bool.{true, false}
+use mathlib.Core.List.{List, [], _∷_}
+use mathlib.Core.Path.{_≡_, refl, sym, ap, _∙_, subst}
+use native.Mathlib.Omega.{arith}
+use lib.ListN.{length, length-set, set}
+use lib.Seq.{getD-set-other, getD-set-same}
+use borrow.Author.Tests.{eq-eqb, eqb-true, ne-eqb}
+use Rattle.geometry.specs.Shape.{adus, adusPerBlock}
+use Rattle.geometry.specs.declared.shape.Config.{Config}
+use Rattle.model.specs.Blocks.{closed, freed, writtenOn}
+use Rattle.model.specs.declared.block.Block.{Block}
+use Rattle.model.specs.declared.block.State.the-variants.{Open}
+use Rattle.model.specs.declared.block.Way.{Way}
+use Rattle.model.specs.declared.table.Domain.{Domain}
+use Rattle.rules.specs.Blocks.{closedAt, freedAt, nextSerial, openedFor, withLast, writtenInto}
+use Rattle.rules.specs.Drive.{Drive, blockAt, clearBlock, clearDomain, domainAt, heldBy, heldCount, isPlacedState, openCount, size, withBlock}
+use Rattle.rules.specs.Observation.{Holding, entriesOf, holdingAt}
+use Rattle.rules.specs.Soundness.{wayBelow}
+use Rattle.rules.proofs.Drive.{domain-other}
+use Rattle.rules.proofs.Kept.Facts.{Facts}
+use Rattle.rules.proofs.Kept.OneBlock.{OwnSequel, block-facts-on, coverageWith, facts-fewer, facts-opened, held-owned}
+use Rattle.rules.proofs.Kept.Mild.{Mild, closed-mild, written-mild}
+use Rattle.rules.proofs.Kept.Views.{Changed, changed-apart, ifPlaced, view, view-changed}
+use Rattle.rules.proofs.Kept.Entries.{entries-stay}
+use Rattle.rules.proofs.Writes.{Ready, opened-other, opened-other-entry, opened-ready, opened-record, written-other-entry, written-ready, written-record}
+
+-- No other domain than d holds this block.
+abbrev pub NotOthers : ℕ → Block → Type 0
+NotOthers d b = (e : ℕ) → 1 ≤ e → ¬ (e ≡ d) → heldBy e b ≡ false
+
+pub own-block : (d : ℕ) (b : Block) → b .holder ≡ d → NotOthers d b
+own-block d b same e p other = ne-eqb (b .holder) e (λ h. other (sym h ∙ same))
+
+pub held-block : (d : ℕ) (b : Block) → heldBy d b ≡ true → NotOthers d b
+held-block d b e = own-block d b (eqb-true (b .holder) d e)
+
+nobodys-block : (d : ℕ) (b : Block) → b .holder ≡ 0 → NotOthers d b
+nobodys-block d b same e p other = ne-eqb (b .holder) e (λ h. absurd (omega (arith, h, same, p)))
+
+-- Block n with another record, and perhaps another store.
+abbrev pub setAt : ℕ → Block → List ℕ → Drive → Drive
+setAt n b store v = record { table = withBlock n b (v .table); store = store }
+
+module _ (v : Drive) (d n : ℕ) (b : Block) (store : List ℕ) (l : n < size (v .table)) (whole : size (v .table) ≤ length (v .table .blocks))
+    (others : (m : ℕ) → m < size (v .table) → ¬ (m ≡ n) → entriesOf (setAt n b store v) m ≡ entriesOf v m)
+    (before : NotOthers d (blockAt (v .table) n)) (after : NotOthers d b) where
+  pub set-found : blockAt (setAt n b store v .table) n ≡ b
+  set-found = getD-set-same (v .table .blocks) n b clearBlock (omega (arith, l, whole))
+
+  pub set-changed : Changed d n v (setAt n b store v)
+  set-changed = record {
+    inside = l;
+    config = refl;
+    blocks = λ m other. getD-set-other (v .table .blocks) n m b clearBlock other;
+    entries = others;
+    domains = λ e p other. refl;
+    own = refl;
+    last = omega arith;
+    before = before;
+    after = λ e p other. rw set-found (after e p other);
+  }
+
+-- What is left after the change of one block, where table and store keep their lengths.
+changed-sequel : {d n : ℕ} {v w : Drive} → Changed d n v w → Facts w
+    → length (w .table .domains) ≡ length (v .table .domains)
+    → length (w .table .blocks) ≡ length (v .table .blocks)
+    → length (w .store) ≡ length (v .store)
+    → OwnSequel d v w
+changed-sequel c f domains blocks store = record {
+  sequel = record { facts = f; config = c .config; domains = domains; blocks = blocks; store = store };
+  others = λ e p other. changed-apart c e p other;
+}
+
+-- ---- A mild change of a block that the domain holds
+
+module _ (v : Drive) (d n : ℕ) (b : Block) (store : List ℕ) (p : 1 ≤ d) (l : n < size (v .table))
+    (whole : size (v .table) ≤ length (v .table .blocks))
+    (held : heldBy d (blockAt (v .table) n) ≡ true)
+    (mild : Mild (v .table) (blockAt (v .table) n) b)
+    (others : (m : ℕ) → m < size (v .table) → ¬ (m ≡ n) → entriesOf (setAt n b store v) m ≡ entriesOf v m) where
+  abbrev w : Drive
+  w = setAt n b store v
+
+  still-held : heldBy d b ≡ true
+  still-held = rw (mild .holder) held
+
+  pub mild-changed : Changed d n v w
+  mild-changed = set-changed v d n b store l whole others (held-block d (blockAt (v .table) n) held) (held-block d b still-held)
+
+  found : blockAt (w .table) n ≡ b
+  found = getD-set-same (v .table .blocks) n b clearBlock (omega (arith, l, whole))
+
+  pub mild-held : heldBy d (blockAt (w .table) n) ≡ true
+  mild-held = rw found still-held
+
+  pub mild-facts : Facts v → Facts w
+  mild-facts f =
+      let o = held-owned v d n f p l held in
+      let h = eqb-true (blockAt (v .table) n .holder) d held in
+      facts-fewer p mild-changed f
+      (subst (λ (e : ℕ). domainAt (v .table) e .exists ≡ true) h (o .exists))
+      (omega (arith, o .high, h))
+      (rw found (block-facts-on (v .table) (w .table) b refl (λ q x. record { exists = x; placements = refl; last = omega arith })
+      (mild .facts (f .blocks n l))))
+      (rw (mild-held, held) (omega arith))
+      (rw (mild-held, held) (rw found (mild .opens)))
+      (λ s. rw (mild-held, held) (rw (found, mild .serial) (omega arith)))
+      (λ k. rw (mild-held, held) (rw found (mild .placed k)))
+
+-- ---- Freeing a block that the domain holds
+
+module _ (v : Drive) (d n : ℕ) (p : 1 ≤ d) (l : n < size (v .table)) (whole : size (v .table) ≤ length (v .table .blocks))
+    (held : heldBy d (blockAt (v .table) n) ≡ true) where
+  abbrev freeing : Drive
+  freeing = record { table = freedAt n (v .table); store = v .store }
+
+  pub freed-found : blockAt (freeing .table) n ≡ freed (blockAt (v .table) n)
+  freed-found = getD-set-same (v .table .blocks) n (freed (blockAt (v .table) n)) clearBlock (omega (arith, l, whole))
+
+  pub freed-changed : Changed d n v freeing
+  unfolding entriesOf
+  freed-changed =
+      set-changed v d n (freed (blockAt (v .table) n)) (v .store) l whole (λ m k other. refl)
+      (held-block d (blockAt (v .table) n) held) (nobodys-block d (freed (blockAt (v .table) n)) refl)
+
+  pub freed-not-held : heldBy d (blockAt (freeing .table) n) ≡ false
+  freed-not-held = rw freed-found (ne-eqb 0 d (λ e. omega arith))
+
+  pub freed-facts : Facts v → Facts freeing
+  freed-facts f =
+      let o = held-owned v d n f p l held in
+      let h = eqb-true (blockAt (v .table) n .holder) d held in
+      facts-fewer p freed-changed f
+      (subst (λ (e : ℕ). domainAt (v .table) e .exists ≡ true) h (o .exists))
+      (omega (arith, o .high, h))
+      (rw freed-found (record { holder = refl; written = refl; left = refl; serial = refl }))
+      (rw freed-not-held (omega arith))
+      (rw freed-not-held (omega arith))
+      (λ s. rw freed-not-held (omega arith))
+      (λ k. rw freed-not-held (omega arith))
+
+  pub freed-sequel : Facts v → OwnSequel d v freeing
+  freed-sequel f = changed-sequel freed-changed (freed-facts f) refl (rw length-set) refl
+
+-- ---- Closing, and writing into, a block that the domain holds
+
+module _ (v : Drive) (d n : ℕ) (p : 1 ≤ d) (l : n < size (v .table)) (whole : size (v .table) ≤ length (v .table .blocks))
+    (held : heldBy d (blockAt (v .table) n) ≡ true) where
+  abbrev closing : Drive
+  closing = record { table = closedAt n (v .table); store = v .store }
+
+  pub closed-found : blockAt (closing .table) n ≡ closed (blockAt (v .table) n)
+  closed-found = getD-set-same (v .table .blocks) n (closed (blockAt (v .table) n)) clearBlock (omega (arith, l, whole))
+
+  pub closed-changed : Changed d n v closing
+  unfolding entriesOf
+  closed-changed =
+      mild-changed v d n (closed (blockAt (v .table) n)) (v .store) p l whole held (closed-mild (v .table) (blockAt (v .table) n)) (λ m k other. refl)
+
+  pub closed-facts : Facts v → Facts closing
+  unfolding entriesOf
+  closed-facts f =
+      mild-facts v d n (closed (blockAt (v .table) n)) (v .store) p l whole held (closed-mild (v .table) (blockAt (v .table) n)) (λ m k other. refl) f
+
+  pub closed-sequel : Facts v → OwnSequel d v closing
+  closed-sequel f = changed-sequel closed-changed (closed-facts f) refl (rw length-set) refl
+
+  pub closed-held : heldBy d (blockAt (closing .table) n) ≡ true
+  closed-held = rw (closed-found, closed-mild (v .table) (blockAt (v .table) n) .holder) held
+
+module _ (v : Drive) (d n : ℕ) (users : List ℕ) (p : 1 ≤ d) (r : Ready (v .table .config) v) (l : n < size (v .table))
+    (held : heldBy d (blockAt (v .table) n) ≡ true)
+    (fits : blockAt (v .table) n .written .0 + length users ≤ adusPerBlock (v .table .config) .0) where
+  abbrev c : Config
+  c = v .table .config
+
+  abbrev filling : Drive
+  filling = writtenInto d n users v .drive
+
+  abbrev filled : Block
+  filled = writtenOn (adus (length users)) (adusPerBlock c) (blockAt (v .table) n)
+
+  others-stay : (m : ℕ) → m < size (v .table) → ¬ (m ≡ n) → entriesOf filling m ≡ entriesOf v m
+  others-stay m k other =
+      entries-stay c v filling m r (written-ready c d n users v r l fits) k
+      (λ i small. written-other-entry c d n users v r l fits m i other small)
+
+  pub written-changed : Changed d n v filling
+  unfolding writtenInto
+  written-changed =
+      mild-changed v d n filled _ p l (r .blocks) held (written-mild (v .table) (adus (length users)) (blockAt (v .table) n)) others-stay
+
+  pub written-facts : Facts v → Facts filling
+  unfolding writtenInto
+  written-facts f =
+      mild-facts v d n filled _ p l (r .blocks) held (written-mild (v .table) (adus (length users)) (blockAt (v .table) n)) others-stay f
+
+  pub written-held : heldBy d (blockAt (filling .table) n) ≡ true
+  written-held =
+      rw (written-record c d n users v r l fits, written-mild (v .table) (adus (length users)) (blockAt (v .table) n) .holder) held
+
+  written-blocks : length (filling .table .blocks) ≡ length (v .table .blocks)
+  unfolding writtenInto
+  written-blocks = rw length-set
+
+  pub written-domains : filling .table .domains ≡ v .table .domains
+  unfolding writtenInto
+  written-domains = refl
+
+  pub written-sequel : Facts v → OwnSequel d v filling
+  written-sequel f =
+      changed-sequel written-changed (written-facts f) (ap (λ (rs : List Domain). length rs) written-domains) written-blocks
+      (written-ready c d n users v r l fits .store ∙ sym (r .store))
+
+-- ---- Opening a block that nobody holds
+
+module _ (v : Drive) (d n : ℕ) (way : Way) (p : 1 ≤ d) (few : d ≤ 16) (r : Ready (v .table .config) v) (l : n < size (v .table))
+    (table : length (v .table .domains) ≡ 16) (nobody : blockAt (v .table) n .holder ≡ 0) where
+  abbrev shape : Config
+  shape = v .table .config
+
+  abbrev opening : Drive
+  opening = openedFor d way n v
+
+  pub opened-domain : domainAt (opening .table) d ≡ withLast (nextSerial (v .table) d) (domainAt (v .table) d)
+  unfolding openedFor
+  opened-domain = getD-set-same (v .table .domains) (d - 1) _ clearDomain (omega (arith, table, few, p))
+
+  pub opened-held : heldBy d (blockAt (opening .table) n) ≡ true
+  opened-held = rw (opened-record shape d way n v r l) (eq-eqb d d refl)
+
+  opened-others : (e : ℕ) → 1 ≤ e → ¬ (e ≡ d) → domainAt (opening .table) e ≡ domainAt (v .table) e
+  unfolding openedFor
+  opened-others e q other =
+      domain-other (v .table) d e (withLast (nextSerial (v .table) d) (domainAt (v .table) d)) p q (λ same. other (sym same))
+
+  pub opened-changed : Changed d n v opening
+  opened-changed = record {
+    inside = l;
+    config = opened-ready shape d way n v r l .shape;
+    blocks = λ m other. opened-other shape d way n v r l m other;
+    entries = λ m k other.
+        entries-stay shape v opening m r (opened-ready shape d way n v r l) k
+        (λ i small. opened-other-entry shape d way n v r l m i other small);
+    domains = opened-others;
+    own = rw opened-domain;
+    last = rw opened-domain (omega arith);
+    before = nobodys-block d (blockAt (v .table) n) nobody;
+    after = held-block d (blockAt (opening .table) n) opened-held;
+  }
+
+  not-held : heldBy d (blockAt (v .table) n) ≡ false
+  not-held = rw nobody (ne-eqb 0 d (λ e. omega arith))
+
+  pub opened-facts : Facts v
+      → domainAt (v .table) d .exists ≡ true
+      → wayBelow (domainAt (v .table) d .placements) way ≡ true
+      → heldCount (v .table) d + 1 ≤ domainAt (v .table) d .quota
+      → coverageWith (v .table) d (heldCount (v .table) d + 1) ≤ size (v .table)
+      → openCount (v .table) d < domainAt (v .table) d .limit
+      → ((k : ℕ) → isPlacedState k (Open way) ≡ true → view (ifPlaced k) d v ≡ 0)
+      → Facts opening
+  opened-facts f exists below quota covers limit placed =
+      facts-opened way p few opened-changed f exists not-held (opened-record shape d way n v r l)
+      (rw opened-domain) below quota covers limit placed
+
+  opened-blocks : length (opening .table .blocks) ≡ length (v .table .blocks)
+  unfolding openedFor
+  opened-blocks = rw length-set
+
+  opened-domains : length (opening .table .domains) ≡ length (v .table .domains)
+  unfolding openedFor
+  opened-domains = rw length-set
+
+  pub opened-sequel : Facts opening → OwnSequel d v opening
+  opened-sequel f =
+      changed-sequel opened-changed f opened-domains opened-blocks (opened-ready shape d way n v r l .store ∙ sym (r .store))
+
+  -- What the opened block adds to a view of its domain.
+  pub opened-adds : (q : Holding → ℕ) → view q d opening ≡ view q d v + q (holdingAt opening n)
+  opened-adds q = let h = view-changed opened-changed q d in omega (arith, rw (not-held, opened-held) at h)
+
+-- ---- Opening again a Closed block that the domain holds: freeing it and opening it
+
+set-twice : {A : Type 0} (l : List A) (n : ℕ) (x y : A) → set (set l n x) n y ≡ set l n y
+set-twice [] n x y = refl
+set-twice (z ∷ l) zero x y = refl
+set-twice (z ∷ l) (suc n) x y = ap (λ (k : List _). z ∷ k) (set-twice l n x y)
+
+pub reopened : (v : Drive) (d n : ℕ) (way : Way) → n < size (v .table) → size (v .table) ≤ length (v .table .blocks)
+    → openedFor d way n (record { table = freedAt n (v .table); store = v .store }) ≡ openedFor d way n v
+unfolding openedFor
+reopened v d n way l whole =
+    let b = blockAt (v .table) n in
+    rw (getD-set-same (v .table .blocks) n (freed b) clearBlock (omega (arith, l, whole)), set-twice (v .table .blocks) n)

@@ -1,0 +1,535 @@
+-- The facts of soundness follow from the test, and the test from the facts; and where coverage leaves room a block is Free.
+use Prim.Native.Nat.{ℕ, zero, suc, _+_, _-_, _≤_, _<_, max}
+use mathlib.Core.Bool.{Bool, true, false, true≢false, not, _&&_, cond}
+use mathlib.Core.Option.{Option, none, some}
+use mathlib.Core.Path.{_≡_, refl, sym, ap, _∙_, subst}
+use native.Mathlib.Omega.{arith}
+use lib.Dec.{eqb, leb, ltb}
+use borrow.Author.Tests.{eq-eqb, eqb-true, le-leb, leb-true, lt-ltb, ltb-true, not-true}
+use Rattle.geometry.proofs.Laws.Shape.{both, by-test, is-between}
+use Rattle.geometry.specs.Address.{isDomainId}
+use Rattle.geometry.specs.Shape.{adusPerBlock, between}
+use Rattle.model.specs.declared.block.Block.{Block}
+use Rattle.model.specs.declared.block.State.{State}
+use Rattle.model.specs.declared.block.State.the-variants.{Closed, Free, Open}
+use Rattle.model.specs.declared.block.Way.the-variants.{Erase, Placement}
+use Rattle.model.specs.declared.table.Domain.{Domain}
+use Rattle.model.specs.declared.table.Table.{Table}
+use Rattle.rules.specs.Blocks.{chosenBlock}
+use Rattle.rules.specs.Counting.{implies, sumTo}
+use Rattle.rules.specs.Domains.{coverage, instead, reservedBy}
+use Rattle.rules.specs.Drive.{Drive, blockAt, clearDomain, domainAt, eachDomain, heldBy, heldCount, isFree, isFreeState, isPlacedState, openCount, size}
+use Rattle.rules.specs.Observation.{Holding, holdingAt}
+use Rattle.rules.specs.Soundness.{countsKept, eachPair, freeIsClear, holderExists, missingIsClear, openLimitKept, placementExists, placementsDiffer, quotaKept, sameHolder, samePlacement, serialGiven, serialsDiffer, sound}
+use Rattle.rules.proofs.Blocks.{Choice, choice}
+use Rattle.rules.proofs.Counting.{all-each, by-eq, each-all, sum-add, sum-le, sum-swap, sum-term, sum-two, sum-zero}
+use Rattle.rules.proofs.Kept.Facts.{BlockFacts, DomainFacts, Existing, Facts, FreeFacts, Owned, StateFacts}
+use Rattle.rules.proofs.Soundness.{Clauses, apart, together}
+use Rattle.rules.proofs.Kept.Views.{ifPlaced, ifSerial, view, weight}
+
+-- ---- Tests
+
+-- How tests are put together and taken apart.
+joined : (a b : Bool) → a ≡ true → b ≡ true → a && b ≡ true
+joined a b e f = rw (e, f)
+
+by-implies : (a b : Bool) → (a ≡ true → b ≡ true) → implies a b ≡ true
+by-implies true b h = h refl
+by-implies false b h = refl
+
+implied : (a b : Bool) → implies a b ≡ true → a ≡ true → b ≡ true
+implied a b h e = rw (e) at h
+
+by-not : (a : Bool) → ¬ (a ≡ true) → not a ≡ true
+by-not true h = absurd (h refl)
+by-not false h = refl
+
+-- A test that fails does not pass.
+clash : {P : Type 0} (a : Bool) → a ≡ true → a ≡ false → P
+clash a e f = absurd (true≢false (sym e ∙ f))
+
+-- What lies between passes the test.
+in-between : (low high n : ℕ) → low ≤ n → n ≤ high → between low high n ≡ true
+in-between low high n l m = joined (leb low n) (leb n high) (le-leb low n l) (le-leb n high m)
+
+-- ---- One block
+
+-- The tests of one block, by name.
+record BlockTests (t : Table) (b : Block) : Type 0 where
+  given : serialGiven t b ≡ true
+  held : holderExists t b ≡ true
+  placed : placementExists t b ≡ true
+  counts : countsKept (adusPerBlock (t .config) .0) (t .config .period) (b .state) b ≡ true
+  clear : freeIsClear b ≡ true
+
+-- A block that is not Free and passes is owned, and a Free one that passes is clear.
+owned-of : (t : Table) (b : Block) → isFree b ≡ false → BlockTests t b → Owned t b
+owned-of t b e q =
+    let taken : not (isFree b) ≡ true = rw e in
+    let h = both (isDomainId (b .holder)) (domainAt t (b .holder) .exists) (implied (not (isFree b)) _ (q .held) taken) in
+    let id = is-between 1 16 (b .holder) (h .0) in
+    let s = is-between 1 (domainAt t (b .holder) .last) (b .serial) (implied (not (isFree b)) _ (q .given) taken) in
+    record {
+      low = id .least;
+      high = id .most;
+      exists = h .1;
+      first = s .least;
+      last = s .most;
+      below = q .placed;
+    }
+
+free-of : (b : Block) → isFree b ≡ true → freeIsClear b ≡ true → FreeFacts b
+free-of b e q =
+    let q1 = eqb (b .holder) 0 in
+    let q2 = q1 && eqb (b .written .0) 0 in
+    let q3 = q2 && eqb (b .left) 0 in
+    let h3 = both q3 (eqb (b .serial) 0) (implied (isFree b) _ q e) in
+    let h2 = both q2 (eqb (b .left) 0) (h3 .0) in
+    let h1 = both q1 (eqb (b .written .0) 0) (h2 .0) in
+    record {
+      holder = eqb-true (b .holder) 0 (h1 .0);
+      written = eqb-true (b .written .0) 0 (h1 .1);
+      left = eqb-true (b .left) 0 (h2 .1);
+      serial = eqb-true (b .serial) 0 (h3 .1);
+    }
+
+-- What passes has the facts of its state.
+state-facts : (t : Table) (b : Block) (s : State) → b .state ≡ s → BlockTests t b
+    → countsKept (adusPerBlock (t .config) .0) (t .config .period) s b ≡ true
+    → StateFacts t s b
+state-facts t b Free e q c = free-of b (ap isFreeState e) (q .clear)
+state-facts t b (Open way) e q c =
+    let h = both (ltb (b .written .0) (adusPerBlock (t .config) .0)) (between 1 (t .config .period) (b .left)) c in
+    let l = is-between 1 (t .config .period) (b .left) (h .1) in
+    record {
+      owned = owned-of t b (ap isFreeState e) q;
+      written = ltb-true (b .written .0) (adusPerBlock (t .config) .0) (h .0);
+      some-left = l .least;
+      left = l .most;
+    }
+state-facts t b (Closed way) e q c =
+    let h = both (leb (b .written .0) (adusPerBlock (t .config) .0)) (eqb (b .left) 0) c in
+    record {
+      owned = owned-of t b (ap isFreeState e) q;
+      written = leb-true (b .written .0) (adusPerBlock (t .config) .0) (h .0);
+      left = eqb-true (b .left) 0 (h .1);
+    }
+
+-- A block that is not Free is owned.
+owned-by : (t : Table) (b : Block) → BlockFacts t b → isFree b ≡ false → Owned t b
+owned-by t b f e = go (b .state) f e
+  where
+    go : (s : State) → StateFacts t s b → isFreeState s ≡ false → Owned t b
+    go Free h e = absurd (true≢false e)
+    go (Open way) h e = h .owned
+    go (Closed way) h e = h .owned
+
+-- A block of a domain is not Free.
+not-free : (t : Table) (b : Block) (d : ℕ) → BlockFacts t b → 1 ≤ d → heldBy d b ≡ true → isFree b ≡ false
+not-free t b d f l e = go (b .state) f
+  where
+    go : (s : State) → StateFacts t s b → isFreeState s ≡ false
+    go Free h = absurd (omega (arith, l, h .holder, eqb-true (b .holder) d e))
+    go (Open way) h = refl
+    go (Closed way) h = refl
+
+-- A block that has the facts passes: one that is not Free, and each.
+tests-owned : (t : Table) (b : Block) → isFree b ≡ false → Owned t b
+    → countsKept (adusPerBlock (t .config) .0) (t .config .period) (b .state) b ≡ true
+    → BlockTests t b
+tests-owned t b e o c = record {
+  given = rw e (in-between 1 (domainAt t (b .holder) .last) (b .serial) (o .first) (o .last));
+  held =
+      rw e (joined (isDomainId (b .holder)) (domainAt t (b .holder) .exists)
+      (in-between 1 16 (b .holder) (o .low) (o .high)) (o .exists));
+  placed = o .below;
+  counts = c;
+  clear = rw e;
+}
+
+tests-state : (t : Table) (b : Block) (s : State) → b .state ≡ s → StateFacts t s b → BlockTests t b
+tests-state t b Free e h = record {
+  given = rw e;
+  held = rw e;
+  placed = rw e;
+  counts = rw e;
+  clear = rw (e, h .holder, h .written, h .left, h .serial);
+}
+tests-state t b (Open way) e h =
+    tests-owned t b (ap isFreeState e) (h .owned)
+    (rw e (joined (ltb (b .written .0) (adusPerBlock (t .config) .0)) (between 1 (t .config .period) (b .left))
+    (lt-ltb (b .written .0) (adusPerBlock (t .config) .0) (h .written))
+    (in-between 1 (t .config .period) (b .left) (h .some-left) (h .left))))
+tests-state t b (Closed way) e h =
+    tests-owned t b (ap isFreeState e) (h .owned)
+    (rw e (joined (leb (b .written .0) (adusPerBlock (t .config) .0)) (eqb (b .left) 0)
+    (le-leb (b .written .0) (adusPerBlock (t .config) .0) (h .written)) (eq-eqb (b .left) 0 (h .left))))
+
+-- ---- One domain
+
+-- A domain that has the facts passes.
+quota-test : (t : Table) (d : ℕ) → DomainFacts t d → quotaKept t d ≡ true
+quota-test t d f =
+    let r = domainAt t d in
+    rw (
+      le-leb (r .reserved) (r .quota) (f .order),
+      le-leb (r .quota) (size t) (f .fits),
+      le-leb (heldCount t d) (r .quota) (f .within),
+    )
+
+open-test : (t : Table) (d : ℕ) → DomainFacts t d → openLimitKept t d ≡ true
+open-test t d f =
+    by-implies (domainAt t d .exists) _ (λ e.
+    let r = domainAt t d in
+    let h = f .existing e in
+    joined (between 1 16 (r .placements) && between (r .placements) 256 (r .limit)) (leb (openCount t d) (r .limit))
+    (joined (between 1 16 (r .placements)) (between (r .placements) 256 (r .limit))
+    (in-between 1 16 (r .placements) (h .some-placement) (h .few-placements))
+    (in-between (r .placements) 256 (r .limit) (h .enough) (h .most)))
+    (le-leb (openCount t d) (r .limit) (h .within)))
+
+missing-test : (t : Table) (d : ℕ) → DomainFacts t d → missingIsClear (domainAt t d) ≡ true
+missing-test t d f =
+    by-test (domainAt t d .exists) (λ e. rw e) (λ e. rw (f .missing e))
+
+-- A domain that passes has the facts.
+existing-of : (r : Domain) (opens : ℕ)
+    → between 1 16 (r .placements) && between (r .placements) 256 (r .limit) && leb opens (r .limit) ≡ true
+    → Existing r opens
+existing-of r opens e =
+    let h2 = both (between 1 16 (r .placements) && between (r .placements) 256 (r .limit)) (leb opens (r .limit)) e in
+    let h1 = both (between 1 16 (r .placements)) (between (r .placements) 256 (r .limit)) (h2 .0) in
+    let p = is-between 1 16 (r .placements) (h1 .0) in
+    let l = is-between (r .placements) 256 (r .limit) (h1 .1) in
+    record {
+      some-placement = p .least;
+      few-placements = p .most;
+      enough = l .least;
+      most = l .most;
+      within = leb-true opens (r .limit) (h2 .1);
+    }
+
+missing-of : (r : Domain) → missingIsClear r ≡ true → r .exists ≡ false → r ≡ clearDomain
+missing-of r q e =
+    let q1 = eqb (r .reserved) 0 in
+    let q2 = q1 && eqb (r .quota) 0 in
+    let q3 = q2 && eqb (r .placements) 0 in
+    let q4 = q3 && eqb (r .limit) 0 in
+    let h4 = both q4 (eqb (r .last) 0) (implied (not (r .exists)) _ q (rw e)) in
+    let h3 = both q3 (eqb (r .limit) 0) (h4 .0) in
+    let h2 = both q2 (eqb (r .placements) 0) (h3 .0) in
+    let h1 = both q1 (eqb (r .quota) 0) (h2 .0) in
+    λ i. record {
+      exists = e i;
+      reserved = eqb-true (r .reserved) 0 (h1 .0) i;
+      quota = eqb-true (r .quota) 0 (h1 .1) i;
+      placements = eqb-true (r .placements) 0 (h2 .1) i;
+      limit = eqb-true (r .limit) 0 (h3 .1) i;
+      last = eqb-true (r .last) 0 (h4 .1) i;
+    }
+
+domain-of : (t : Table) (d : ℕ) → quotaKept t d ≡ true → openLimitKept t d ≡ true → missingIsClear (domainAt t d) ≡ true
+    → DomainFacts t d
+domain-of t d q o m =
+    let r = domainAt t d in
+    let h2 = both (leb (r .reserved) (r .quota) && leb (r .quota) (size t)) (leb (heldCount t d) (r .quota)) q in
+    let h1 = both (leb (r .reserved) (r .quota)) (leb (r .quota) (size t)) (h2 .0) in
+    record {
+      order = leb-true (r .reserved) (r .quota) (h1 .0);
+      fits = leb-true (r .quota) (size t) (h1 .1);
+      within = leb-true (heldCount t d) (r .quota) (h2 .1);
+      existing = λ e. existing-of r (openCount t d) (implied (r .exists) _ o e);
+      missing = missing-of r m;
+    }
+
+-- ---- Sums
+
+-- A sum of zeros and ones of which no two are ones is at most 1.
+sum-alone : (n : ℕ) (f : ℕ → ℕ) → ((i : ℕ) → f i ≤ 1) → ((i k : ℕ) → i < n → k < i → 0 < f i → 0 < f k → ⊥) → sumTo f n ≤ 1
+unfolding sumTo
+sum-alone zero f few alone = omega arith
+sum-alone (suc n) f few alone =
+    by-eq (f n) 0
+    (λ e. omega (arith, sum-alone n f few (λ i k l. alone i k (omega arith))))
+    (λ e. omega (
+      arith,
+      few n,
+      sum-zero n f (λ k l. by-eq (f k) 0 (λ z. z) (λ z. absurd (alone n k (omega arith) l (omega arith) (omega arith)))),
+    ))
+
+-- A sum of terms that are not 0 is at least their number.
+sum-least : (n : ℕ) (f : ℕ → ℕ) → ((i : ℕ) → i < n → 1 ≤ f i) → n ≤ sumTo f n
+unfolding sumTo
+sum-least zero f h = omega arith
+sum-least (suc n) f h = omega (arith, sum-least n f (λ i l. h i (omega arith)), h n (omega arith))
+
+-- ---- Two blocks
+
+-- Block n is the domain's, and passes the test.
+abbrev Marked : Drive → ℕ → (Holding → Bool) → ℕ → Type 0
+Marked v d p n = (heldBy d (blockAt (v .table) n) ≡ true) × (p (holdingAt v n) ≡ true)
+
+-- A view of ones and zeros: at most 1 where no two blocks of the domain have ones, ..
+view-alone : (v : Drive) (d : ℕ) (p : Holding → Bool)
+    → ((n m : ℕ) → n < size (v .table) → m < n → Marked v d p n → Marked v d p m → ⊥)
+    → view (λ h. cond (p h) 1 0) d v ≤ 1
+unfolding view
+view-alone v d p alone =
+    sum-alone (size (v .table)) _ (λ n. at-most (heldBy d (blockAt (v .table) n)) (p (holdingAt v n)))
+    (λ n m l k x y. alone n m l k
+    (marked (heldBy d (blockAt (v .table) n)) (p (holdingAt v n)) x)
+    (marked (heldBy d (blockAt (v .table) m)) (p (holdingAt v m)) y))
+  where
+    at-most : (a b : Bool) → cond a (cond b 1 0) 0 ≤ 1
+    at-most true true = omega arith
+    at-most true false = omega arith
+    at-most false b = omega arith
+
+    marked : (a b : Bool) → 0 < cond a (cond b 1 0) 0 → (a ≡ true) × (b ≡ true)
+    marked true true l = (refl, refl)
+    marked true false l = absurd (omega (arith, l))
+    marked false b l = absurd (omega (arith, l))
+
+-- .. and at least 2 where two have.
+view-two : (v : Drive) (d : ℕ) (p : Holding → Bool) (n m : ℕ) → n < size (v .table) → m < n → Marked v d p n → Marked v d p m
+    → 2 ≤ view (λ h. cond (p h) 1 0) d v
+unfolding view
+view-two v d p n m l k x y =
+    let q : Holding → ℕ = λ h. cond (p h) 1 0 in
+    let one : weight q d v n ≡ 1 = rw (x .0, x .1) in
+    let other : weight q d v m ≡ 1 = rw (y .0, y .1) in
+    omega (arith, sum-two (size (v .table)) (weight q d v) n m l (omega arith) (λ e. omega arith))
+
+-- Two blocks open for one placement, as a test and by the placement.
+placed-same : (p : ℕ) (s other : State) → isPlacedState p s ≡ true → isPlacedState p other ≡ true → samePlacement s other ≡ true
+placed-same p Free other e f = absurd (true≢false (sym e))
+placed-same p (Open Erase) other e f = absurd (true≢false (sym e))
+placed-same p (Open (Placement q)) other e f = rw (eqb-true q p e) f
+placed-same p (Closed way) other e f = absurd (true≢false (sym e))
+
+same-placed : (s other : State) → samePlacement s other ≡ true
+    → (p : ℕ) × (isPlacedState p s ≡ true) × (isPlacedState p other ≡ true)
+same-placed Free other e = absurd (true≢false (sym e))
+same-placed (Open Erase) other e = absurd (true≢false (sym e))
+same-placed (Open (Placement q)) other e = (q, eq-eqb q q refl, e)
+same-placed (Closed way) other e = absurd (true≢false (sym e))
+
+-- Two blocks that a domain holds have one holder by the test.
+same-holder : (t : Table) (b other : Block) (d : ℕ) → BlockFacts t b → BlockFacts t other → 1 ≤ d
+    → heldBy d b ≡ true → heldBy d other ≡ true → sameHolder b other ≡ true
+same-holder t b other d f g l e h =
+    rw (not-free t b d f l e, not-free t other d g l h)
+    (eq-eqb (b .holder) (other .holder) (eqb-true (b .holder) d e ∙ sym (eqb-true (other .holder) d h)))
+
+-- Two blocks of one domain by the test are not Free and have one holder.
+record Pair (b other : Block) : Type 0 where
+  taken : isFree b ≡ false
+  other-taken : isFree other ≡ false
+  same : other .holder ≡ b .holder
+
+pair-of : (b other : Block) → sameHolder b other ≡ true → Pair b other
+pair-of b other e =
+    let h2 = both (not (isFree b) && not (isFree other)) (eqb (b .holder) (other .holder)) e in
+    let h1 = both (not (isFree b)) (not (isFree other)) (h2 .0) in
+    record {
+      taken = not-true (isFree b) (h1 .0);
+      other-taken = not-true (isFree other) (h1 .1);
+      same = sym (eqb-true (b .holder) (other .holder) (h2 .1));
+    }
+
+-- A test of every two blocks, at two of them; a test of every domain, at one.
+pair-at : (t : Table) (p : Block → Block → Bool) → eachPair t p ≡ true → (n m : ℕ) → n < size t → m < n
+    → p (blockAt t n) (blockAt t m) ≡ true
+pair-at t p e n m l k = all-each n _ (all-each (size t) _ e n l) m k
+
+domain-at : (p : ℕ → Bool) → eachDomain p ≡ true → (d : ℕ) → 1 ≤ d → d ≤ 16 → p d ≡ true
+domain-at p e d low high =
+    let same : d - 1 + 1 ≡ d = omega arith in subst (λ (x : ℕ). p x ≡ true) same (all-each 16 _ e (d - 1) (omega arith))
+
+-- ---- The facts from the test
+
+module _ (v : Drive) (c : Clauses (v .table)) where
+  -- Every block, ..
+  block-of : (n : ℕ) → n < size (v .table) → BlockFacts (v .table) (blockAt (v .table) n)
+  block-of n l =
+      let t = v .table in
+      let s = size t in
+      let k = all-each s _ (c .counts) n l in
+      state-facts t (blockAt t n) (blockAt t n .state) refl (record {
+        given = all-each s _ (c .serials-given) n l;
+        held = all-each s _ (c .holders) n l;
+        placed = all-each s _ (c .placements) n l;
+        counts = k;
+        clear = all-each s _ (c .free-clear) n l;
+      }) k
+
+  -- .. the holder of two blocks of a domain, ..
+  holder-of : (d n m : ℕ) → 1 ≤ d → n < size (v .table) → m < n
+      → heldBy d (blockAt (v .table) n) ≡ true → heldBy d (blockAt (v .table) m) ≡ true
+      → sameHolder (blockAt (v .table) n) (blockAt (v .table) m) ≡ true
+  holder-of d n m low l k e f =
+      same-holder (v .table) (blockAt (v .table) n) (blockAt (v .table) m) d (block-of n l) (block-of m (omega arith)) low e f
+
+  -- .. the blocks with one serial, ..
+  unique-of : (d s : ℕ) → 1 ≤ d → view (ifSerial s) d v ≤ 1
+  unique-of d s low =
+      view-alone v d (λ h. eqb (h .serial) s) (λ n m l k x y.
+      let b = blockAt (v .table) n in
+      let other = blockAt (v .table) m in
+      let same : eqb (b .serial) (other .serial) ≡ true =
+      eq-eqb (b .serial) (other .serial) (eqb-true (b .serial) s (x .1) ∙ sym (eqb-true (other .serial) s (y .1))) in
+      clash (sameHolder b other && eqb (b .serial) (other .serial))
+      (joined (sameHolder b other) (eqb (b .serial) (other .serial)) (holder-of d n m low l k (x .0) (y .0)) same)
+      (not-true (sameHolder b other && eqb (b .serial) (other .serial))
+      (pair-at (v .table) serialsDiffer (c .serials-differ) n m l k)))
+
+  -- .. and the open blocks of one placement.
+  single-of : (d p : ℕ) → 1 ≤ d → view (ifPlaced p) d v ≤ 1
+  single-of d p low =
+      view-alone v d (λ h. isPlacedState p (h .state)) (λ n m l k x y.
+      let b = blockAt (v .table) n in
+      let other = blockAt (v .table) m in
+      clash (sameHolder b other && samePlacement (b .state) (other .state))
+      (joined (sameHolder b other) (samePlacement (b .state) (other .state))
+      (holder-of d n m low l k (x .0) (y .0)) (placed-same p (b .state) (other .state) (x .1) (y .1)))
+      (not-true (sameHolder b other && samePlacement (b .state) (other .state))
+      (pair-at (v .table) placementsDiffer (c .placements-differ) n m l k)))
+
+  all-facts : Facts v
+  all-facts = record {
+    limits = c .limits;
+    domains = λ d low high. domain-of (v .table) d
+        (domain-at (quotaKept (v .table)) (c .quotas) d low high)
+        (domain-at (openLimitKept (v .table)) (c .open-limits) d low high)
+        (domain-at (λ d. missingIsClear (domainAt (v .table) d)) (c .missing-clear) d low high);
+    covers = leb-true (coverage (reservedBy (v .table)) (heldCount (v .table))) (size (v .table)) (c .coverage);
+    unique = unique-of;
+    single = single-of;
+    blocks = block-of;
+  }
+
+pub facts-of : (v : Drive) → sound (v .table) ≡ true → Facts v
+facts-of v e = all-facts v (apart (v .table) e)
+
+-- ---- The test from the facts
+
+module _ (v : Drive) (f : Facts v) where
+  -- Every block passes.
+  tests-at : (n : ℕ) → n < size (v .table) → BlockTests (v .table) (blockAt (v .table) n)
+  tests-at n l = tests-state (v .table) (blockAt (v .table) n) (blockAt (v .table) n .state) refl (f .blocks n l)
+
+  -- Two blocks of one domain, marked alike, are more than a view of at most 1 allows.
+  not-two : (p : Holding → Bool) → ((d : ℕ) → 1 ≤ d → view (λ h. cond (p h) 1 0) d v ≤ 1)
+      → (n m : ℕ) → n < size (v .table) → m < n → Pair (blockAt (v .table) n) (blockAt (v .table) m)
+      → p (holdingAt v n) ≡ true → p (holdingAt v m) ≡ true → ⊥
+  not-two p most n m l k w x y =
+      let b = blockAt (v .table) n in
+      let d = b .holder in
+      omega (
+        arith,
+        most d (owned-by (v .table) b (f .blocks n l) (w .taken) .low),
+        view-two v d p n m l k (eq-eqb d d refl, x) (eq-eqb (blockAt (v .table) m .holder) d (w .same), y),
+      )
+
+  -- Every two blocks pass, ..
+  serial-test : (n m : ℕ) → n < size (v .table) → m < n → serialsDiffer (blockAt (v .table) n) (blockAt (v .table) m) ≡ true
+  serial-test n m l k =
+      by-not _ (λ e.
+      let b = blockAt (v .table) n in
+      let other = blockAt (v .table) m in
+      let s = b .serial in
+      let h = both (sameHolder b other) (eqb s (other .serial)) e in
+      not-two (λ h. eqb (h .serial) s) (λ d. f .unique d s) n m l k (pair-of b other (h .0))
+      (eq-eqb s s refl) (eq-eqb (other .serial) s (sym (eqb-true s (other .serial) (h .1)))))
+
+  placement-test : (n m : ℕ) → n < size (v .table) → m < n → placementsDiffer (blockAt (v .table) n) (blockAt (v .table) m) ≡ true
+  placement-test n m l k =
+      by-not _ (λ e.
+      let b = blockAt (v .table) n in
+      let other = blockAt (v .table) m in
+      let h = both (sameHolder b other) (samePlacement (b .state) (other .state)) e in
+      let r = same-placed (b .state) (other .state) (h .1) in
+      not-two (λ h. isPlacedState (r .0) (h .state)) (λ d. f .single d (r .0)) n m l k (pair-of b other (h .0)) (r .1) (r .2))
+
+  -- .. and so does every domain.
+  domains-pass : (p : ℕ → Bool) → ((d : ℕ) → DomainFacts (v .table) d → p d ≡ true) → eachDomain p ≡ true
+  domains-pass p h = each-all 16 _ (λ i l. h (i + 1) (f .domains (i + 1) (omega arith) (omega arith)))
+
+  all-clauses : Clauses (v .table)
+  all-clauses =
+      let t = v .table in
+      let s = size t in
+      record {
+        limits = f .limits;
+        quotas = domains-pass (quotaKept t) (quota-test t);
+        coverage = le-leb (coverage (reservedBy t) (heldCount t)) s (f .covers);
+        open-limits = domains-pass (openLimitKept t) (open-test t);
+        serials-differ = each-all s _ (λ n l. each-all n _ (λ m k. serial-test n m l k));
+        serials-given = each-all s _ (λ n l. tests-at n l .given);
+        holders = each-all s _ (λ n l. tests-at n l .held);
+        placements = each-all s _ (λ n l. tests-at n l .placed);
+        placements-differ = each-all s _ (λ n l. each-all n _ (λ m k. placement-test n m l k));
+        counts = each-all s _ (λ n l. tests-at n l .counts);
+        free-clear = each-all s _ (λ n l. tests-at n l .clear);
+        missing-clear = domains-pass (λ d. missingIsClear (domainAt t d)) (missing-test t);
+      }
+
+pub facts-sound : (v : Drive) → Facts v → sound (v .table) ≡ true
+facts-sound v f = together (v .table) (all-clauses v f)
+
+-- ---- Room
+
+-- Where no block is Free, the domains hold them all.
+all-held : (v : Drive) → Facts v → ((n : ℕ) → n < size (v .table) → isFree (blockAt (v .table) n) ≡ false)
+    → size (v .table) ≤ sumTo (λ i. heldCount (v .table) (i + 1)) 16
+unfolding heldCount
+all-held v f taken =
+    let t = v .table in
+    let holds : ℕ → ℕ → ℕ = λ n i. cond (heldBy (i + 1) (blockAt t n)) 1 0 in
+    omega (
+      arith,
+      sum-least (size t) (λ n. sumTo (holds n) 16) (λ n l.
+          let o = owned-by t (blockAt t n) (f .blocks n l) (taken n l) in
+          let d = blockAt t n .holder in
+          let one : holds n (d - 1) ≡ 1 = rw (eq-eqb d (d - 1 + 1) (omega (arith, o .low))) in
+          omega (arith, one, sum-term 16 (holds n) (d - 1) (omega (arith, o .low, o .high)))),
+      sum-swap (size t) 16 holds,
+    )
+
+-- With k blocks more for a domain the coverage is at least k more than what the domains hold.
+covers-more : (reserved held : ℕ → ℕ) (d r k : ℕ) → 1 ≤ d → d ≤ 16
+    → sumTo (λ i. held (i + 1)) 16 + k ≤ coverage (instead d r reserved) (instead d (held d + k) held)
+unfolding coverage
+covers-more reserved held d r k low high =
+    let more : ℕ → ℕ = λ i. cond (eqb (i + 1) d) k 0 in
+    let covered : ℕ → ℕ = λ i. max (instead d r reserved (i + 1)) (instead d (held d + k) held (i + 1)) in
+    let whole : more (d - 1) ≡ k = rw (eq-eqb (d - 1 + 1) d (omega arith)) in
+    omega (
+      arith,
+      whole,
+      sum-term 16 more (d - 1) (omega arith),
+      sum-add 16 (λ i. held (i + 1)) more,
+      sum-le 16 (λ i. held (i + 1) + more i) covered (λ i l.
+          by-test (eqb (i + 1) d)
+          (λ e. rw (e, eqb-true (i + 1) d e) (omega arith))
+          (λ e. rw e (omega arith))),
+    )
+
+-- Where coverage holds with more blocks for a domain than it holds, some block is Free, so that one is chosen.
+pub room-chosen : (v : Drive) (d k : ℕ) → Facts v → 1 ≤ d → d ≤ 16
+    → coverage (instead d (domainAt (v .table) d .reserved) (reservedBy (v .table))) (instead d (heldCount (v .table) d + k) (heldCount (v .table))) ≤ size (v .table)
+    → 1 ≤ k
+    → (n : ℕ) × (chosenBlock (v .table) ≡ some n)
+room-chosen v d k f low high covers some-room =
+    go (chosenBlock (v .table)) (choice (v .table) (size (v .table)))
+  where
+    go : (chosen : Option ℕ) → Choice (v .table) (size (v .table)) chosen → (n : ℕ) × (chosen ≡ some n)
+    go none c =
+        absurd (omega (
+          arith,
+          covers,
+          some-room,
+          all-held v f c,
+          covers-more (reservedBy (v .table)) (heldCount (v .table)) d (domainAt (v .table) d .reserved) k low high,
+        ))
+    go (some n) c = (n, refl)

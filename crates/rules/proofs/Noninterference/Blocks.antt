@@ -1,0 +1,194 @@
+-- The same Close, Free, Erase or Write by block in two drives that the domain cannot tell apart.
+use Prim.Native.Nat.{ℕ, _+_, _≤_, _<_, min}
+use mathlib.Core.Bool.{true}
+use mathlib.Core.List.{List, [], _∷_}
+use mathlib.Core.Path.{_≡_, refl, sym, ap, ap₂, _∙_}
+use lib.Dec.{ltb}
+use lib.ListN.{length, replicate}
+use borrow.Author.Tests.{lt-ltb, ltb-true}
+use Rattle.geometry.proofs.Laws.Shape.{by-test}
+use Rattle.geometry.specs.Address.{isBlock}
+use Rattle.geometry.specs.Shape.{adus, adusPerBlock}
+use Rattle.geometry.specs.declared.shape.Adus.{Adus}
+use Rattle.geometry.specs.declared.shape.Config.{Config}
+use Rattle.model.specs.Blocks.{closed, writtenOn}
+use Rattle.model.specs.declared.block.Block.{Block}
+use Rattle.model.specs.declared.block.State.{State}
+use Rattle.model.specs.declared.block.State.the-variants as state
+use Rattle.model.specs.declared.block.Way.{Way}
+use Rattle.model.specs.declared.command.Command.the-variants.{Close, Free}
+use Rattle.rules.specs.Blocks.{allOnes, closedAt, nextSerial, openedFor, writtenInto}
+use Rattle.rules.specs.Drive.{Drive, blockAt, heldBy, overwritten, size}
+use Rattle.rules.specs.Effects.{effect, verdict}
+use Rattle.rules.specs.Observation.{Bytes, Holding, Observation, Words, entriesOf, holdingAt, nameOf}
+use Rattle.rules.specs.Questions.{Lengths, questions}
+use Rattle.rules.proofs.Kept.Asked.{close-asked, free-asked}
+use Rattle.rules.proofs.Kept.Changes.{closed-changed, closed-found, closed-held, freed-changed, freed-not-held}
+use Rattle.rules.proofs.Noninterference.Common.{Pair, exists-same, holding-same, inside-other, inside-same, own-other, own-same, sound-same}
+use Rattle.rules.proofs.Kept.Entries.{entries-opened, entries-written}
+use Rattle.rules.proofs.Kept.Erasing.{Fit, fit-blocks}
+use Rattle.rules.proofs.Kept.Calls.{course-fit}
+use Rattle.rules.proofs.Kept.Sweeps.{bare}
+use Rattle.rules.proofs.Noninterference.Twins.{Twin, ask-same, told}
+use Rattle.rules.proofs.Kept.Views.{Alike, alike-changed, weight}
+use Rattle.rules.proofs.Writes.{Ready, opened-record, written-record}
+
+-- ---- What a change of a block's record makes of a holding: it looks at neither holder nor P/E count.
+
+abbrev seenOf : Block → List ℕ → Holding
+seenOf b entries = record { serial = b .serial; state = b .state; written = b .written .0; left = b .left; entries = entries }
+
+abbrev closedHolding : Holding → Holding
+closedHolding h = seenOf (closed (bare h)) (h .entries)
+
+closed-seen : (s : State) (holder : ℕ) (written : Adus) (left erases serial : ℕ) (entries : List ℕ)
+    → let b : Block = record { state = s; holder = holder; written = written; left = left; erases = erases; serial = serial } in
+    seenOf (closed b) entries ≡ closedHolding (seenOf b entries)
+unfolding closed
+closed-seen state.Free holder written left erases serial entries = refl
+closed-seen (state.Open way) holder written left erases serial entries = refl
+closed-seen (state.Closed way) holder written left erases serial entries = refl
+
+abbrev pub writtenHolding : List ℕ → ℕ → Holding → Holding
+writtenHolding users capacity h =
+    seenOf (writtenOn (adus (length users)) (adus capacity) (bare h)) (overwritten (h .written) users (h .entries))
+
+written-seen : (s : State) (holder : ℕ) (written : Adus) (left erases serial : ℕ) (users entries : List ℕ) (capacity : ℕ)
+    → let b : Block = record { state = s; holder = holder; written = written; left = left; erases = erases; serial = serial } in
+    seenOf (writtenOn (adus (length users)) (adus capacity) b) (overwritten (written .0) users entries)
+    ≡ writtenHolding users capacity (seenOf b entries)
+unfolding closed writtenOn
+written-seen state.Free holder written left erases serial users entries capacity = refl
+written-seen (state.Open way) holder written left erases serial users entries capacity =
+    by-test (ltb (min (written .0 + length users) capacity) capacity) (λ e. rw e) (λ e. rw e)
+written-seen (state.Closed way) holder written left erases serial users entries capacity = refl
+
+-- A closed block, a written one and an opened one as their domain sees them.
+close-holding : (v : Drive) (d n : ℕ) (p : 1 ≤ d) (l : n < size (v .table)) (whole : size (v .table) ≤ length (v .table .blocks))
+    (held : heldBy d (blockAt (v .table) n) ≡ true)
+    → holdingAt (record { table = closedAt n (v .table); store = v .store }) n ≡ closedHolding (holdingAt v n)
+unfolding entriesOf
+close-holding v d n p l whole held =
+    let b = blockAt (v .table) n in
+    rw (closed-found v d n p l whole held)
+    (closed-seen (b .state) (b .holder) (b .written) (b .left) (b .erases) (b .serial) (entriesOf v n))
+
+pub fill-holding : (c : Config) (d n : ℕ) (users : List ℕ) (v : Drive) (r : Ready c v) (l : n < c .blocks)
+    (fits : blockAt (v .table) n .written .0 + length users ≤ adusPerBlock c .0)
+    → holdingAt (writtenInto d n users v .drive) n ≡ writtenHolding users (adusPerBlock c .0) (holdingAt v n)
+fill-holding c d n users v r l fits =
+    let b = blockAt (v .table) n in
+    ap₂ (λ (x : Block) (es : List ℕ). seenOf x es)
+    (written-record c d n users v r l fits ∙ ap (λ (x : Config). writtenOn (adus (length users)) (adusPerBlock x) b) (r .shape))
+    (entries-written c d n users v r l fits)
+    ∙ (written-seen (b .state) (b .holder) (b .written) (b .left) (b .erases) (b .serial) users (entriesOf v n) (adusPerBlock c .0))
+
+abbrev pub freshHolding : Config → Way → ℕ → Holding
+freshHolding c way serial = record {
+  serial = serial;
+  state = state.Open way;
+  written = 0;
+  left = c .period;
+  entries = replicate (adusPerBlock c .0) allOnes;
+}
+
+pub open-holding : (c : Config) (d : ℕ) (way : Way) (n : ℕ) (v : Drive) (r : Ready c v) (l : n < c .blocks)
+    → holdingAt (openedFor d way n v) n ≡ freshHolding c way (nextSerial (v .table) d)
+open-holding c d way n v r l = rw (opened-record c d way n v r l, entries-opened c d way n v r l, r .shape)
+
+-- An answer of one block number, by serial, with nothing filled.
+abbrev pub blockTold : ℕ → Observation
+blockTold serial = record { number = 0; serials = serial ∷ []; words = Words.plain []; bytes = Bytes.plain [] }
+
+module _ {a : ℕ} {v w : Drive} (p : Pair a v w) (lent : Lengths) where
+  fit-left : Fit v lent
+  fit-left = course-fit (p .left) lent
+
+  fit-right : Fit w lent
+  fit-right = course-fit (p .right) lent
+
+  -- ---- Close
+
+  module _ (n m : ℕ) (same : nameOf a v n ≡ nameOf a w m) where
+    close-verdicts : verdict v lent (Close a n) ≡ verdict w lent (Close a m)
+    unfolding questions
+    close-verdicts =
+        ask-same _ _ _ _ _ (sound-same p) (λ e2.
+        ask-same _ _ _ _ _ refl (λ e4.
+        ask-same _ _ _ _ _ (exists-same p) (λ e5.
+        ask-same _ _ _ _ _ (inside-same p n m same) (λ e6.
+        ask-same _ _ _ _ _ (own-same p n m same e6) (λ e9. refl)))))
+
+    module _ (inside : isBlock (v .table .config) n ≡ true) (own : heldBy a (blockAt (v .table) n) ≡ true) where
+      here : n < size (v .table)
+      here = ltb-true n (size (v .table)) inside
+
+      there : m < size (w .table)
+      there = ltb-true m (size (w .table)) (inside-other p n m same inside)
+
+      own-there : heldBy a (blockAt (w .table) m) ≡ true
+      own-there = own-other p n m same inside own
+
+      pub old-weights : (q : Holding → ℕ) → weight q a v n ≡ weight q a w m
+      old-weights q = rw (own, own-there) (ap q (holding-same p n m same inside own))
+
+      closed-same : holdingAt (effect (Close a n) v .drive) n ≡ holdingAt (effect (Close a m) w .drive) m
+      unfolding effect
+      closed-same =
+          close-holding v a n (p .low) here (fit-blocks fit-left) own
+          ∙ ap (λ (h : Holding). closedHolding h) (holding-same p n m same inside own)
+          ∙ sym (close-holding w a m (p .low) there (fit-blocks fit-right) own-there)
+
+      closed-alike : Alike a (effect (Close a n) v .drive) (effect (Close a m) w .drive)
+      unfolding effect
+      closed-alike =
+          let c = closed-changed v a n (p .low) here (fit-blocks fit-left) own in
+          let d = closed-changed w a m (p .low) there (fit-blocks fit-right) own-there in
+          alike-changed (p .alike) c d old-weights
+          (λ q. rw (closed-held v a n (p .low) here (fit-blocks fit-left) own, closed-held w a m (p .low) there (fit-blocks fit-right) own-there)
+          (ap q closed-same))
+          (p .alike .domain)
+
+      closed-told : (bytes other : List ℕ) → bytes ≡ [] → other ≡ [] → told v (Close a n) bytes ≡ told w (Close a m) other
+      unfolding effect
+      closed-told bytes other b o = rw (b, o) (ap (λ (h : Holding). blockTold (h .serial)) closed-same)
+
+      pub freed-alike : Alike a (effect (Free a n) v .drive) (effect (Free a m) w .drive)
+      unfolding effect
+      freed-alike =
+          alike-changed (p .alike)
+          (freed-changed v a n (p .low) here (fit-blocks fit-left) own)
+          (freed-changed w a m (p .low) there (fit-blocks fit-right) own-there)
+          old-weights
+          (λ q. rw (
+            freed-not-held v a n (p .low) here (fit-blocks fit-left) own,
+            freed-not-held w a m (p .low) there (fit-blocks fit-right) own-there,
+          ))
+          (p .alike .domain)
+
+      freed-told : (bytes other : List ℕ) → bytes ≡ [] → other ≡ [] → told v (Free a n) bytes ≡ told w (Free a m) other
+      unfolding effect
+      freed-told bytes other b o =
+          rw (b, o) (ap (λ (h : Holding). blockTold (h .serial)) (holding-same p n m same inside own))
+
+    pub close-twin : Twin a v w lent (Close a n) (Close a m)
+    close-twin = record {
+      reading = refl;
+      verdicts = close-verdicts;
+      after = λ e f. let x = close-asked v lent fit-left a n e in closed-alike (lt-ltb n (size (v .table)) (x .inside)) (x .held);
+      telling = λ e f bytes other b o.
+          let x = close-asked v lent fit-left a n e in closed-told (lt-ltb n (size (v .table)) (x .inside)) (x .held) bytes other b o;
+    }
+
+    free-verdicts : verdict v lent (Free a n) ≡ verdict w lent (Free a m)
+    unfolding questions
+    free-verdicts = close-verdicts
+
+    pub free-twin : Twin a v w lent (Free a n) (Free a m)
+    free-twin = record {
+      reading = refl;
+      verdicts = free-verdicts;
+      after = λ e f. let x = free-asked v lent fit-left a n e in freed-alike (lt-ltb n (size (v .table)) (x .inside)) (x .held);
+      telling = λ e f bytes other b o.
+          let x = free-asked v lent fit-left a n e in freed-told (lt-ltb n (size (v .table)) (x .inside)) (x .held) bytes other b o;
+    }

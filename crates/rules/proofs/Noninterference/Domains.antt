@@ -1,0 +1,268 @@
+-- The same Create, Change Capacity, Delete or Pulse in two drives that the domain cannot tell apart.
+use Prim.Native.Nat.{ℕ}
+use mathlib.Core.Bool.{Bool, true, false, true≢false, not, _&&_, cond}
+use mathlib.Core.List.{List, [], _∷_}
+use mathlib.Core.Path.{_≡_, refl, sym, ap, ap₂, _∙_}
+use native.Mathlib.Omega.{arith}
+use lib.Dec.{eqb, leb}
+use borrow.Author.Tests.{eqb-true, le-leb, leb-false, leb-true}
+use Rattle.geometry.proofs.Laws.Shape.{both, by-test}
+use Rattle.geometry.specs.Address.{isDomainId}
+use Rattle.geometry.specs.Questions.{Question, ask, firstNo}
+use Rattle.geometry.specs.Shape.{between}
+use Rattle.geometry.specs.declared.shape.Config.{Config}
+use Rattle.geometry.specs.declared.shape.Planes.{Planes}
+use Rattle.model.specs.declared.command.Command.the-variants.{ChangeCapacity, Create, Delete, Pulse}
+use Rattle.model.specs.declared.table.Domain.{Domain}
+use Rattle.rules.specs.Domains.{arePlaneCounts, changedDomain, coveredWith, createdDomain, reservedBy}
+use Rattle.rules.specs.Drive.{Drive, domainAt, heldCount, size}
+use Rattle.rules.specs.Effects.{driveAfter, effect, verdict}
+use Rattle.rules.specs.Noninterference.{staysReserved}
+use Rattle.rules.specs.Observation.{Holding}
+use Rattle.rules.specs.Questions.{Lengths, exists, questions}
+use Rattle.rules.specs.Soundness.{sound}
+use Rattle.rules.proofs.Noninterference.Common.{Pair, coverage-within, exists-same, held-same, sound-same}
+use Rattle.rules.proofs.Effects.{accepted-drive}
+use Rattle.rules.proofs.Kept.OneBlock.{OwnSequel}
+use Rattle.rules.proofs.Questions.{answered-yes}
+use Rattle.rules.proofs.Runs.{deleted-gone}
+use Rattle.rules.proofs.Kept.Calls.{Course}
+use Rattle.rules.proofs.Kept.Sweeps.{aged, changed, created, pulsed-domain, pulsed-sequel, pulsed-view}
+use Rattle.rules.proofs.Noninterference.Twins.{Twin, ask-same}
+use Rattle.rules.proofs.Kept.Views.{Alike, view}
+
+-- What Create and Change Capacity are asked, by the answers.
+abbrev asked : Bool → Bool → Bool → Bool → Bool → List Question
+asked b2 b4 b5 b6 b14 = ask 2 b2 ∷ ask 4 b4 ∷ ask 5 b5 ∷ ask 6 b6 ∷ ask 14 b14 ∷ []
+
+-- The first no is the same if question 14, where it is reached, is answered alike and so are the others.
+asked-same : (b2 b4 b5 b6 b14 c2 c5 c6 c14 : Bool) → b2 ≡ c2 → b5 ≡ c5 → b6 ≡ c6
+    → (b2 ≡ true → b4 ≡ true → b5 ≡ true → b6 ≡ true → b14 ≡ c14)
+    → firstNo (asked b2 b4 b5 b6 b14) ≡ firstNo (asked c2 b4 c5 c6 c14)
+asked-same b2 b4 b5 b6 b14 c2 c5 c6 c14 same2 same5 same6 same14 =
+    ask-same 2 b2 c2 _ _ same2 (λ e2.
+    ask-same 4 b4 b4 _ _ refl (λ e4.
+    ask-same 5 b5 c5 _ _ same5 (λ e5.
+    ask-same 6 b6 c6 _ _ same6 (λ e6.
+    ask-same 14 b14 c14 [] [] (same14 e2 e4 e5 e6) (λ e14. refl)))))
+
+-- Where it is reached, question 14 decides.
+last-decides : (b2 b4 b5 b6 b14 : Bool) → b2 ≡ true → b4 ≡ true → b5 ≡ true → b6 ≡ true
+    → firstNo (asked b2 b4 b5 b6 b14) ≡ cond b14 0 14
+unfolding firstNo
+last-decides b2 b4 b5 b6 b14 e2 e4 e5 e6 = rw (e2, e4, e5, e6)
+
+not-last : (b : Bool) → ¬ (_≡_ {A = ℕ} (cond b 0 14) 14) → b ≡ true
+not-last true other = refl
+not-last false other = absurd (other refl)
+
+-- A Create that is not refused for coverage is covered.
+create-covered : (a : ℕ) (v : Drive) (lent : Lengths) (guarantee quota : Planes) (placements limit : ℕ)
+    → ¬ (verdict v lent (Create a guarantee quota placements limit) ≡ 14)
+    → let t = v .table in
+    sound t ≡ true
+    → isDomainId a ≡ true
+    → not (exists t a) ≡ true
+    → arePlaneCounts (t .config) guarantee quota && between 1 16 placements && between 0 256 limit ≡ true
+    → coveredWith t a (createdDomain (t .config) guarantee quota placements limit .reserved) (heldCount t a) ≡ true
+unfolding questions
+create-covered a v lent guarantee quota placements limit other e2 e4 e5 e6 =
+    not-last _ (λ no. other (last-decides _ _ _ _ _ e2 e4 e5 e6 ∙ no))
+
+module _ (a : ℕ) (v : Drive) (lent : Lengths) (course : Course v) (guarantee quota : Planes)
+    (stays : staysReserved a v (driveAfter v lent (ChangeCapacity a guarantee quota)) ≡ true) where
+  abbrev new : Domain
+  new = changedDomain (v .table) a guarantee quota
+
+  abbrev old : Domain
+  old = domainAt (v .table) a
+
+  -- An accepted Change Capacity of a domain that stays reserved keeps the guarantee.
+  change-keeps : verdict v lent (ChangeCapacity a guarantee quota) ≡ 0 → new .reserved ≡ old .reserved
+  unfolding questions
+  change-keeps e =
+      let c = ChangeCapacity a guarantee quota in
+      let there : old .exists ≡ true = answered-yes v lent c 2 e in
+      let after : domainAt (driveAfter v lent c .table) a ≡ new =
+      ap (λ (u : Drive). domainAt (u .table) a) (accepted-drive v lent c e)
+      ∙ changed v lent (course .facts) (course .shaped .domains) a guarantee quota e .1 in
+      let reserved = eqb (new .reserved) (old .reserved) in
+      let first = both (new .exists && reserved) (eqb (new .quota) (old .quota)) (rw (after, there) at stays) .0 in
+      eqb-true (new .reserved) (old .reserved) (both (new .exists) reserved first .1)
+
+  -- So it is covered where the guarantee does not rise, and refused where it does.
+  change-covered : let t = v .table in
+      sound t ≡ true
+      → isDomainId a ≡ true
+      → exists t a ≡ true
+      → arePlaneCounts (t .config) guarantee quota ≡ true
+      → coveredWith t a (new .reserved) (heldCount t a) ≡ leb (new .reserved) (old .reserved)
+  unfolding questions
+  change-covered e2 e4 e5 e6 =
+      let t = v .table in
+      by-test (leb (new .reserved) (old .reserved))
+      (λ less. rw less
+      (le-leb _ (size t)
+      (omega (
+        arith,
+        course .facts .covers,
+        coverage-within a (new .reserved) (heldCount t a) (reservedBy t) (heldCount t)
+            (omega (arith, leb-true (new .reserved) (old .reserved) less)),
+      ))))
+      (λ more. rw more
+      (by-test (coveredWith t a (new .reserved) (heldCount t a))
+      (λ e14. absurd (omega (
+        arith,
+        leb-false (new .reserved) (old .reserved) more,
+        change-keeps (last-decides _ _ _ _ _ e2 e4 e5 e6 ∙ (rw e14)),
+      )))
+      (λ e14. e14)))
+
+-- No Delete of a domain that stays reserved is accepted.
+delete-refused : (a : ℕ) (v : Drive) (lent : Lengths) → staysReserved a v (driveAfter v lent (Delete a)) ≡ true
+    → ¬ (verdict v lent (Delete a) ≡ 0)
+unfolding questions
+delete-refused a v lent stays e =
+    let there : exists (v .table) a ≡ true = answered-yes v lent (Delete a) 2 e in
+    let gone = ap (λ (r : Domain). r .exists) (deleted-gone v lent a e .clear) in
+    true≢false (sym stays ∙ (rw (there, gone)))
+
+module _ {a : ℕ} {v w : Drive} (p : Pair a v w) (lent : Lengths) where
+  -- The domain's record is replaced by the same one in both.
+  alike-replaced : (v' w' : Drive) (r s : Domain) → r ≡ s
+      → OwnSequel a v v' × (domainAt (v' .table) a ≡ r) × ((q : Holding → ℕ) → view q a v' ≡ view q a v)
+      → OwnSequel a w w' × (domainAt (w' .table) a ≡ s) × ((q : Holding → ℕ) → view q a w' ≡ view q a w)
+      → Alike a v' w'
+  alike-replaced v' w' r s same x y = record {
+    config = x .0 .sequel .config ∙ p .alike .config ∙ sym (y .0 .sequel .config);
+    domain = x .1 ∙ same ∙ sym (y .1);
+    views = λ q. x .2 q ∙ p .alike .views q ∙ sym (y .2 q);
+  }
+
+  -- ---- Create
+
+  create-verdicts : (guarantee quota : Planes) (placements limit : ℕ)
+      → let c = Create a guarantee quota placements limit in
+      ¬ (verdict v lent c ≡ 14) → ¬ (verdict w lent c ≡ 14) → verdict v lent c ≡ verdict w lent c
+  unfolding questions
+  create-verdicts guarantee quota placements limit left right =
+      let missing = ap not (exists-same p) in
+      let counts =
+      ap (λ (c : Config). arePlaneCounts c guarantee quota && between 1 16 placements && between 0 256 limit)
+      (p .alike .config) in
+      asked-same _ _ _ _ _ _ _ _ _ (sound-same p) missing counts (λ e2 e4 e5 e6.
+      create-covered a v lent guarantee quota placements limit left e2 e4 e5 e6
+      ∙ sym (create-covered a w lent guarantee quota placements limit right
+      (sym (sound-same p) ∙ e2) e4 (sym missing ∙ e5) (sym counts ∙ e6)))
+
+  create-after : (guarantee quota : Planes) (placements limit : ℕ)
+      → let c = Create a guarantee quota placements limit in
+      verdict v lent c ≡ 0 → verdict w lent c ≡ 0 → Alike a (effect c v .drive) (effect c w .drive)
+  create-after guarantee quota placements limit e f =
+      alike-replaced _ _ _ _ (ap (λ (c : Config). createdDomain c guarantee quota placements limit) (p .alike .config))
+      (created v lent (p .left .facts) (p .left .shaped .domains) a guarantee quota placements limit e)
+      (created w lent (p .right .facts) (p .right .shaped .domains) a guarantee quota placements limit f)
+
+  pub create-twin : (guarantee quota : Planes) (placements limit : ℕ)
+      → let c = Create a guarantee quota placements limit in
+      ¬ (verdict v lent c ≡ 14) → ¬ (verdict w lent c ≡ 14) → Twin a v w lent c c
+  unfolding effect
+  create-twin guarantee quota placements limit left right = record {
+    reading = refl;
+    verdicts = create-verdicts guarantee quota placements limit left right;
+    after = create-after guarantee quota placements limit;
+    telling = λ e f bytes other x y. rw (x, y);
+  }
+
+  -- ---- Change Capacity
+
+  changed-same : (guarantee quota : Planes)
+      → changedDomain (v .table) a guarantee quota ≡ changedDomain (w .table) a guarantee quota
+  unfolding changedDomain
+  changed-same guarantee quota = rw (held-same p, p .alike .config, p .alike .domain)
+
+  change-verdicts : (guarantee quota : Planes)
+      → let c = ChangeCapacity a guarantee quota in
+      staysReserved a v (driveAfter v lent c) ≡ true → staysReserved a w (driveAfter w lent c) ≡ true
+      → verdict v lent c ≡ verdict w lent c
+  unfolding questions
+  change-verdicts guarantee quota left right =
+      let there = exists-same p in
+      let counts = ap (λ (c : Config). arePlaneCounts c guarantee quota) (p .alike .config) in
+      let rises = ap₂ (λ (r s : Domain). leb (r .reserved) (s .reserved)) (changed-same guarantee quota) (p .alike .domain) in
+      asked-same _ _ _ _ _ _ _ _ _ (sound-same p) there counts (λ e2 e4 e5 e6.
+      change-covered a v lent (p .left) guarantee quota left e2 e4 e5 e6
+      ∙ rises
+      ∙ sym (change-covered a w lent (p .right) guarantee quota right
+      (sym (sound-same p) ∙ e2) e4 (sym there ∙ e5) (sym counts ∙ e6)))
+
+  change-after : (guarantee quota : Planes)
+      → let c = ChangeCapacity a guarantee quota in
+      verdict v lent c ≡ 0 → verdict w lent c ≡ 0 → Alike a (effect c v .drive) (effect c w .drive)
+  change-after guarantee quota e f =
+      alike-replaced _ _ _ _ (changed-same guarantee quota)
+      (changed v lent (p .left .facts) (p .left .shaped .domains) a guarantee quota e)
+      (changed w lent (p .right .facts) (p .right .shaped .domains) a guarantee quota f)
+
+  pub change-twin : (guarantee quota : Planes)
+      → let c = ChangeCapacity a guarantee quota in
+      staysReserved a v (driveAfter v lent c) ≡ true → staysReserved a w (driveAfter w lent c) ≡ true → Twin a v w lent c c
+  unfolding effect
+  change-twin guarantee quota left right = record {
+    reading = refl;
+    verdicts = change-verdicts guarantee quota left right;
+    after = change-after guarantee quota;
+    telling = λ e f bytes other x y. rw (x, y);
+  }
+
+  -- ---- Delete
+
+  delete-verdicts : verdict v lent (Delete a) ≡ verdict w lent (Delete a)
+  unfolding questions
+  delete-verdicts =
+      ask-same 2 (sound (v .table)) (sound (w .table)) _ _ (sound-same p) (λ e2.
+      ask-same 4 (isDomainId a) (isDomainId a) _ _ refl (λ e4.
+      ask-same 5 (exists (v .table) a) (exists (w .table) a) [] [] (exists-same p) (λ e5. refl)))
+
+  pub delete-twin : staysReserved a v (driveAfter v lent (Delete a)) ≡ true → Twin a v w lent (Delete a) (Delete a)
+  delete-twin left = record {
+    reading = refl;
+    verdicts = delete-verdicts;
+    after = λ e f. absurd (delete-refused a v lent left e);
+    telling = λ e f. absurd (delete-refused a v lent left e);
+  }
+
+  -- ---- Pulse
+
+  pulse-verdicts : (seconds : ℕ) → verdict v lent (Pulse seconds) ≡ verdict w lent (Pulse seconds)
+  unfolding questions
+  pulse-verdicts seconds =
+      ask-same 2 (sound (v .table)) (sound (w .table)) _ _ (sound-same p) (λ e2. refl)
+
+  pulse-after : (seconds : ℕ) → Alike a (effect (Pulse seconds) v .drive) (effect (Pulse seconds) w .drive)
+  pulse-after seconds =
+      let whole = p .left .shaped .domains in
+      let whole' = p .right .shaped .domains in
+      record {
+        config =
+            pulsed-sequel v lent (p .left .facts) whole seconds .config
+            ∙ p .alike .config
+            ∙ sym (pulsed-sequel w lent (p .right .facts) whole' seconds .config);
+        domain =
+            pulsed-domain v lent (p .left .facts) whole seconds a
+            ∙ p .alike .domain
+            ∙ sym (pulsed-domain w lent (p .right .facts) whole' seconds a);
+        views = λ q.
+            pulsed-view v lent (p .left .facts) whole seconds a q
+            ∙ p .alike .views (λ h. q (aged seconds h))
+            ∙ sym (pulsed-view w lent (p .right .facts) whole' seconds a q);
+      }
+
+  pub pulse-twin : (seconds : ℕ) → Twin a v w lent (Pulse seconds) (Pulse seconds)
+  unfolding effect
+  pulse-twin seconds = record {
+    reading = refl;
+    verdicts = pulse-verdicts seconds;
+    after = λ e f. pulse-after seconds;
+    telling = λ e f bytes other x y. rw (x, y);
+  }

@@ -1,0 +1,424 @@
+-- The same Write by placement in two drives that the domain cannot tell apart.
+use Prim.Native.Nat.{ℕ, zero, suc, _+_, _-_, _/_, _≤_, _<_}
+use mathlib.Core.Bool.{true, false, true≢false, _&&_}
+use mathlib.Core.List.{List, [], _++_, map}
+use mathlib.Core.Option.{Option, none, some}
+use mathlib.Core.Path.{_≡_, refl, sym, ap, ap₂, _∙_, subst}
+use native.Mathlib.Omega.{arith}
+use lib.Dec.{ltb}
+use lib.ListN.{drop, length, take}
+use borrow.Author.Tests.{eqb-true, ne-eqb}
+use Rattle.geometry.proofs.Laws.Shape.{limits}
+use Rattle.geometry.specs.Shape.{adusPerBlock, withinLimits}
+use Rattle.geometry.specs.declared.address.FlashAddress.{FlashAddress}
+use Rattle.geometry.specs.declared.shape.Adus.{Adus}
+use Rattle.geometry.specs.declared.shape.Config.{Config}
+use Rattle.model.specs.declared.block.Block.{Block}
+use Rattle.model.specs.declared.block.Way.the-variants.{Placement}
+use Rattle.model.specs.declared.command.Command.the-variants.{WriteByPlacement}
+use Rattle.model.specs.declared.table.Domain.{Domain}
+use Rattle.rules.specs.Blocks.{Written, chosenBlock, newBlocks, openedFor, roomIn, userAddresses, withLast, writtenByPlacement, writtenInto, writtenOnwards}
+use Rattle.rules.specs.Drive.{Drive, blockAt, heldBy, isOpenFor, isPlacedState, openBlock, size}
+use Rattle.rules.specs.Effects.{effect, verdict}
+use Rattle.rules.specs.Observation.{Holding, Holds, holdingAt, readAddress, serialAt}
+use Rattle.rules.specs.Questions.{Lengths, coveredAfter, isCount, mayOpenFor, questions, serialsLeft, withinQuota}
+use Rattle.rules.proofs.Noninterference.Addresses.{map-append}
+use Rattle.rules.proofs.Kept.Asked.{placement-asked}
+use Rattle.rules.proofs.Noninterference.Blocks.{freshHolding, open-holding}
+use Rattle.rules.proofs.Kept.Changes.{opened-domain, written-changed, written-held}
+use Rattle.rules.proofs.Noninterference.Common.{Pair, covered-same, exists-same, fits-same, may-open-same, quota-same, serials-same, sound-same}
+use Rattle.rules.proofs.Counting.{by-eq, sum-two}
+use Rattle.rules.proofs.Kept.Facts.{Facts}
+use Rattle.rules.proofs.Noninterference.Pairing.{partner}
+use Rattle.rules.proofs.Kept.Onwards.{Onward, OpenTo, fill-changed, fill-config, inside, inside-opening, next-block, next-onward, nobody, onward-sequel, open-changed, open-fits, open-held, open-own, open-to}
+use Rattle.rules.proofs.Kept.Calls.{course-fit}
+use Rattle.rules.proofs.Noninterference.Twins.{Twin, ask-same, told}
+use Rattle.rules.proofs.Kept.Views.{Alike, alike-back, alike-changed, ifPlaced, view, weight}
+use Rattle.rules.proofs.Kept.Placement.{Asked, firstOf, fits, is-open, newFor, none-onward, placement-is, restOf, some-onward}
+use Rattle.rules.proofs.Noninterference.WriteByBlock.{Into, addressesTold, into-alike, into-read, into-same}
+use Rattle.rules.proofs.Writes.{Ready, onwards-some, onwards-zero}
+
+-- ---- The next block in both
+
+module _ {a p k : ℕ} {users : List ℕ} {v w : Drive} (s : Alike a v w) (x : Onward a p (suc k) users v) (y : Onward a p (suc k) users w)
+    (n m : ℕ) (chosen : chosenBlock (v .table) ≡ some n) (chosen' : chosenBlock (w .table) ≡ some m) where
+  abbrev c : Config
+  c = v .table .config
+
+  abbrev these : List ℕ
+  these = take (adusPerBlock c .0) users
+
+  abbrev opening : Drive
+  opening = openedFor a (Placement p) n v
+
+  abbrev opening' : Drive
+  opening' = openedFor a (Placement p) m w
+
+  opened-same : holdingAt opening n ≡ holdingAt opening' m
+  opened-same =
+      open-holding (v .table .config) a (Placement p) n v (x .ready) (inside x n chosen)
+      ∙ ap₂ (λ (e : Config) (r : Domain). freshHolding e (Placement p) (r .last + 1)) (s .config) (s .domain)
+      ∙ sym (open-holding (w .table .config) a (Placement p) m w (y .ready) (inside y m chosen'))
+
+  nobodys : (u : Drive) (i : ℕ) → blockAt (u .table) i .holder ≡ 0 → heldBy a (blockAt (u .table) i) ≡ false
+  nobodys u i e = rw e (ne-eqb 0 a (λ z. absurd (omega (arith, x .low, z))))
+
+  opened-alike : Alike a opening opening'
+  opened-alike =
+      alike-changed s (open-changed x n chosen) (open-changed y m chosen')
+      (λ q. rw (nobodys v n (nobody x n chosen), nobodys w m (nobody y m chosen')))
+      (λ q. rw (open-held x n chosen, open-held y m chosen') (ap q opened-same))
+      (opened-domain v a n (Placement p) (x .low) (x .high) (x .ready) (inside x n chosen) (x .domains) (nobody x n chosen)
+      ∙ ap (λ (r : Domain). withLast (r .last + 1) r) (s .domain)
+      ∙ sym (opened-domain w a m (Placement p) (y .low) (y .high) (y .ready) (inside y m chosen') (y .domains) (nobody y m chosen')))
+
+  pub next-left : Into a n these opening
+  next-left = record {
+    low = x .low;
+    ready = open-own x n chosen;
+    inside = inside-opening x n chosen;
+    held = open-held x n chosen;
+    fits = open-fits x n chosen;
+  }
+
+  pub next-right : Into a m these opening'
+  next-right =
+      subst (λ (e : Config). Into a m (take (adusPerBlock e .0) users) opening') (sym (s .config))
+      (record {
+        low = y .low;
+        ready = open-own y m chosen';
+        inside = inside-opening y m chosen';
+        held = open-held y m chosen';
+        fits = open-fits y m chosen';
+      })
+
+  abbrev filling : Drive
+  filling = writtenInto a n these opening .drive
+
+  abbrev filling' : Drive
+  filling' = writtenInto a m these opening' .drive
+
+  pub filled-alike : Alike a filling filling'
+  filled-alike = into-alike opened-alike next-left next-right opened-same
+
+  pub filled-same : holdingAt filling n ≡ holdingAt filling' m
+  filled-same = into-same opened-alike next-left next-right opened-same
+
+  pub onward-left : Onward a p k (drop (adusPerBlock c .0) users) filling
+  onward-left = next-onward x n chosen
+
+  pub onward-right : Onward a p k (drop (adusPerBlock c .0) users) filling'
+  onward-right =
+      subst (λ (e : Config). Onward a p k (drop (adusPerBlock e .0) users) (writtenInto a m (take (adusPerBlock e .0) users) opening' .drive))
+      (sym (s .config)) (next-onward y m chosen')
+
+  pub filled-read : (u z : Drive) → u .table .config ≡ opening .table .config → z .table .config ≡ opening' .table .config
+      → serialAt u n ≡ serialAt z m
+      → map (readAddress u) (writtenInto a n these opening .addresses) ≡ map (readAddress z) (writtenInto a m these opening' .addresses)
+  filled-read u z =
+      into-read opened-alike next-left next-right opened-same u z
+      (subst (λ (e : Config). withinLimits e ≡ true) (sym (open-changed x n chosen .config)) (x .facts .limits))
+
+-- ---- Onwards in both
+
+-- A block that the domain holds keeps its serial while others are opened.
+onward-serial : (a p k : ℕ) (users : List ℕ) (v : Drive) → Onward a p k users v → (n : ℕ) → Holds a v n
+    → serialAt (writtenOnwards a p k users v .drive) n ≡ serialAt v n
+onward-serial a p zero users v o n h =
+    ap (λ (x : Written). serialAt (x .drive) n) (onwards-zero (v .table .config) a p users v)
+onward-serial a p (suc k) users v o n h =
+    let m = next-block o .0 in
+    let chosen = next-block o .1 in
+    let apart : ¬ (n ≡ m) = λ same. held-nobody same (nobody o m chosen) in
+    let opened-block = open-changed o m chosen .blocks n apart in
+    let filled-block = fill-changed o m chosen .blocks n apart in
+    ap (λ (x : Written). serialAt (x .drive) n) (onwards-some (v .table .config) a p k m users v (o .ready) chosen)
+    ∙ onward-serial a p k _ _ (next-onward o m chosen) n (
+      subst (λ (e : Config). n < e .blocks) (sym (fill-config o m chosen)) (h .0),
+      subst (λ (b : Block). heldBy a b ≡ true) (sym (filled-block ∙ opened-block)) (h .1),
+    )
+    ∙ ap (λ (b : Block). b .serial) (filled-block ∙ opened-block)
+  where
+    held-nobody : {m : ℕ} → n ≡ m → blockAt (v .table) m .holder ≡ 0 → ⊥
+    held-nobody {m} same none-holds =
+        omega (arith, o .low, eqb-true (blockAt (v .table) n .holder) a (h .1), subst (λ (i : ℕ). blockAt (v .table) i .holder ≡ 0) (sym same) none-holds)
+
+-- What two writes leave and hand back: drives that the domain cannot tell apart, and addresses that read the same.
+record Same (a : ℕ) (x y : Written) : Type 0 where
+  alike : Alike a (x .drive) (y .drive)
+  read : map (readAddress (x .drive)) (x .addresses) ≡ map (readAddress (y .drive)) (y .addresses)
+
+-- The drive after a write into a block: of the same shape, and the block is still held.
+into-config : {a n : ℕ} {users : List ℕ} {v : Drive} → Into a n users v → writtenInto a n users v .drive .table .config ≡ v .table .config
+into-config {a} {n} {users} {v} x = written-changed v a n users (x .low) (x .ready) (x .inside) (x .held) (x .fits) .config
+
+into-holds : {a n : ℕ} {users : List ℕ} {v : Drive} → Into a n users v → Holds a (writtenInto a n users v .drive) n
+into-holds {a} {n} {users} {v} x = (
+  subst (λ (e : Config). n < e .blocks) (sym (into-config x)) (x .inside),
+  written-held v a n users (x .low) (x .ready) (x .inside) (x .held) (x .fits),
+)
+
+abbrev join : Written → Written → Written
+join first rest = record { drive = rest .drive; addresses = first .addresses ++ rest .addresses }
+
+-- A write into one block each, and then the same onwards.
+joined : {a : ℕ} (first first' rest rest' : Written) → Same a rest rest'
+    → map (readAddress (rest .drive)) (first .addresses) ≡ map (readAddress (rest' .drive)) (first' .addresses)
+    → Same a (join first rest) (join first' rest')
+joined first first' rest rest' same here = record {
+  alike = same .alike;
+  read =
+      map-append (readAddress (rest .drive)) (first .addresses) (rest .addresses)
+      ∙ ap₂ (λ (l r : List FlashAddress). l ++ r) here (same .read)
+      ∙ sym (map-append (readAddress (rest' .drive)) (first' .addresses) (rest' .addresses));
+}
+
+onward-twin : (a p k : ℕ) (users : List ℕ) (v w : Drive) → Alike a v w → Onward a p k users v → Onward a p k users w
+    → Same a (writtenOnwards a p k users v) (writtenOnwards a p k users w)
+onward-twin a p zero users v w s x y =
+    subst (λ (z : Written). Same a z (writtenOnwards a p zero users w)) (sym (onwards-zero (v .table .config) a p users v))
+    (subst (Same a (record { drive = v; addresses = [] })) (sym (onwards-zero (w .table .config) a p users w))
+    (record { alike = s; read = refl }))
+onward-twin a p (suc k) users v w s x y =
+    let c = v .table .config in
+    let n = next-block x .0 in
+    let m = next-block y .0 in
+    let chosen = next-block x .1 in
+    let chosen' = next-block y .1 in
+    let others = drop (adusPerBlock c .0) users in
+    let left = next-left s x y n m chosen chosen' in
+    let right = next-right s x y n m chosen chosen' in
+    let first = writtenInto a n (take (adusPerBlock c .0) users) (openedFor a (Placement p) n v) in
+    let first' = writtenInto a m (take (adusPerBlock c .0) users) (openedFor a (Placement p) m w) in
+    let rest = writtenOnwards a p k others (first .drive) in
+    let rest' = writtenOnwards a p k others (first' .drive) in
+    let o = onward-left s x y n m chosen chosen' in
+    let o' = onward-right s x y n m chosen chosen' in
+    let same = onward-twin a p k others (first .drive) (first' .drive) (filled-alike s x y n m chosen chosen') o o' in
+    let serials =
+    onward-serial a p k others (first .drive) o n (into-holds left)
+    ∙ ap (λ (h : Holding). h .serial) (filled-same s x y n m chosen chosen')
+    ∙ sym (onward-serial a p k others (first' .drive) o' m (into-holds right)) in
+    let here =
+    filled-read s x y n m chosen chosen' (rest .drive) (rest' .drive)
+    (onward-sequel a p k others (first .drive) o .sequel .config ∙ into-config left)
+    (onward-sequel a p k others (first' .drive) o' .sequel .config ∙ into-config right)
+    serials in
+    subst (λ (z : Written). Same a z (writtenOnwards a p (suc k) users w)) (sym (onwards-some c a p k n users v (x .ready) chosen))
+    (subst (Same a (join first rest))
+    (sym (onwards-some c a p k m users w (subst (λ (e : Config). Ready e w) (sym (s .config)) (y .ready)) chosen'))
+    (joined first first' rest rest' same here))
+
+-- The same onwards, by as many blocks and behind as many user addresses.
+onward-same : (a p : ℕ) (users : List ℕ) {k k' r r' : ℕ} {v w : Drive} → k ≡ k' → r ≡ r' → Alike a v w
+    → Onward a p k (drop r users) v → Onward a p k' (drop r' users) w
+    → Same a (writtenOnwards a p k (drop r users) v) (writtenOnwards a p k' (drop r' users) w)
+onward-same a p users {k} {k'} {r} {r'} {v} {w} e f s o o' =
+    let x = writtenOnwards a p k (drop r users) v in
+    subst (λ (z : ℕ). Onward a p z (drop r' users) w → Same a x (writtenOnwards a p z (drop r' users) w)) e
+    (subst (λ (z : ℕ). Onward a p k (drop z users) w → Same a x (writtenOnwards a p k (drop z users) w)) f
+    (λ o''. onward-twin a p k (drop r users) v w s o o''))
+    o'
+
+-- ---- The placement's open block in both
+
+-- A placement has one open block at most.
+one-placed : {a : ℕ} {v : Drive} (p : ℕ) → 1 ≤ a → Facts v → (n m : ℕ) → Holds a v n → Holds a v m
+    → isOpenFor p (blockAt (v .table) n) ≡ true → isOpenFor p (blockAt (v .table) m) ≡ true → n ≡ m
+unfolding view
+one-placed {a} {v} p low f n m h k x y =
+    by-eq n m (λ e. e) (λ other.
+    let two = sum-two (size (v .table)) (weight (ifPlaced p) a v) n m (h .0) (k .0) other in
+    absurd (omega (arith, f .single a p low, rw (h .1, k .1, x, y) at two)))
+
+-- None is open in both, or one is with the same holding.
+abbrev SameOpen : ℕ → Drive → Drive → Option ℕ → Option ℕ → Type 0
+SameOpen a v w none none = Unit {0}
+SameOpen a v w none (some m) = ⊥
+SameOpen a v w (some n) none = ⊥
+SameOpen a v w (some n) (some m) = holdingAt v n ≡ holdingAt w m
+
+same-open : (a p : ℕ) (v w : Drive) → 1 ≤ a → Facts w → Alike a v w → (found found' : Option ℕ)
+    → OpenTo v a p (size (v .table)) found → OpenTo w a p (size (w .table)) found' → SameOpen a v w found found'
+same-open a p v w low f s none none o o' = tt
+same-open a p v w low f s none (some m) o o' =
+    let x = partner (alike-back s) m (o' .0, o' .1) in
+    true≢false
+    (sym (ap (λ (h : Holding). isPlacedState p (h .state)) (sym (x .2)) ∙ o' .2)
+    ∙ o (x .0) (x .1 .0) (x .1 .1))
+same-open a p v w low f s (some n) none o o' =
+    let x = partner s n (o .0, o .1) in
+    true≢false
+    (sym (ap (λ (h : Holding). isPlacedState p (h .state)) (sym (x .2)) ∙ o .2)
+    ∙ o' (x .0) (x .1 .0) (x .1 .1))
+same-open a p v w low f s (some n) (some m) o o' =
+    let x = partner s n (o .0, o .1) in
+    let placed = ap (λ (h : Holding). isPlacedState p (h .state)) (sym (x .2)) ∙ o .2 in
+    subst (λ (i : ℕ). holdingAt v n ≡ holdingAt w i) (one-placed p low f (x .0) m (x .1) (o' .0, o' .1) placed (o' .2)) (x .2)
+
+module _ {a : ℕ} {v w : Drive} (p : Pair a v w) (k : ℕ) where
+  abbrev found : Option ℕ
+  found = openBlock (v .table) a k
+
+  abbrev found' : Option ℕ
+  found' = openBlock (w .table) a k
+
+  open-same : SameOpen a v w found found'
+  open-same =
+      same-open a k v w (p .low) (p .right .facts) (p .alike) found found' (open-to v a k (size (v .table))) (open-to w a k (size (w .table)))
+
+  -- So it has the same room, and as many blocks are opened.
+  room-from : (x y : Option ℕ) → SameOpen a v w x y → roomIn (v .table) x ≡ roomIn (w .table) y
+  room-from none none same = refl
+  room-from none (some m) same = absurd same
+  room-from (some n) none same = absurd same
+  room-from (some n) (some m) same =
+      ap₂ (λ (c : Config) (h : Holding). adusPerBlock c .0 - h .written) (p .alike .config) same
+
+  may-from : (x y : Option ℕ) → SameOpen a v w x y → mayOpenFor x (v .table) a ≡ mayOpenFor y (w .table) a
+  may-from none none same = may-open-same p
+  may-from none (some m) same = absurd same
+  may-from (some n) none same = absurd same
+  may-from (some n) (some m) same = refl
+
+  new-same : (count : ℕ) → newBlocks (v .table) a k count ≡ newBlocks (w .table) a k count
+  unfolding newBlocks
+  new-same count =
+      ap₂ (λ (c : Config) (r : ℕ). (count - r + (adusPerBlock c .0 - 1)) / adusPerBlock c .0)
+      (p .alike .config) (room-from found found' open-same)
+
+  module _ (lent : Lengths) (start : ℕ) (count : Adus) where
+    placement-verdicts : verdict v lent (WriteByPlacement a k start count) ≡ verdict w lent (WriteByPlacement a k start count)
+    unfolding questions
+    placement-verdicts =
+        let new = newBlocks (v .table) a k (count .0) in
+        let new' = newBlocks (w .table) a k (count .0) in
+        let news = new-same (count .0) in
+        ask-same _ _ _ _ _ (sound-same p) (λ e2.
+        ask-same _ _ _ _ _ (fits-same p lent) (λ e3.
+        ask-same _ _ _ _ _ refl (λ e4.
+        ask-same _ _ _ _ _ (exists-same p) (λ e5.
+        ask-same _ _ _ _ _ (ap (λ (r : Domain). ltb k (r .placements) && isCount count) (p .alike .domain)) (λ e6.
+        ask-same _ _ _ _ _ refl (λ e7.
+        ask-same _ _ _ _ _ refl (λ e8.
+        ask-same _ _ _ _ _ (may-from found found' open-same) (λ e11.
+        ask-same _ _ _ _ _ (serials-same p new ∙ ap (λ (x : ℕ). serialsLeft (w .table) a x) news) (λ e12.
+        ask-same _ _ _ _ _ (quota-same p new ∙ ap (λ (x : ℕ). withinQuota (w .table) a x) news) (λ e13.
+        ask-same _ _ _ _ _ (covered-same p new e5 e13 ∙ ap (λ (x : ℕ). coveredAfter (w .table) a x) news) (λ e14.
+        refl)))))))))))
+
+    abbrev users : List ℕ
+    users = userAddresses start (count .0)
+
+    news : (x y : Option ℕ) → SameOpen a v w x y → newFor (v .table) x (length users) ≡ newFor (w .table) y (length users)
+    news x y same =
+        ap₂ (λ (c : Config) (r : ℕ). (length users - r + (adusPerBlock c .0 - 1)) / adusPerBlock c .0)
+        (p .alike .config) (room-from x y same)
+
+    module _ (e : verdict v lent (WriteByPlacement a k start count) ≡ 0) (f : verdict w lent (WriteByPlacement a k start count) ≡ 0) where
+      asked : Asked a k users v
+      asked = placement-asked v lent (course-fit (p .left) lent) a k start count e
+
+      asked' : Asked a k users w
+      asked' = placement-asked w lent (course-fit (p .right) lent) a k start count f
+
+      whole-none : found ≡ none → found' ≡ none
+          → Same a (join (firstOf a none users v) (restOf a k none users v)) (join (firstOf a none users w) (restOf a k none users w))
+      whole-none at at' =
+          joined (firstOf a none users v) (firstOf a none users w) (restOf a k none users v) (restOf a k none users w)
+          (onward-same a k users {r = 0} {r' = 0} (news none none tt) refl (p .alike) (none-onward asked at) (none-onward asked' at'))
+          refl
+
+      module _ (n m : ℕ) (at : found ≡ some n) (at' : found' ≡ some m) (same : holdingAt v n ≡ holdingAt w m) where
+        abbrev first : Written
+        first = firstOf a (some n) users v
+
+        abbrev first' : Written
+        first' = firstOf a (some m) users w
+
+        left : Into a n (take (roomIn (v .table) (some n)) users) v
+        left = record {
+          low = p .low;
+          ready = asked .ready;
+          inside = is-open asked n at .0;
+          held = is-open asked n at .1;
+          fits = fits asked n at;
+        }
+
+        right' : Into a m (take (roomIn (w .table) (some m)) users) w
+        right' = record {
+          low = p .low;
+          ready = asked' .ready;
+          inside = is-open asked' m at' .0;
+          held = is-open asked' m at' .1;
+          fits = fits asked' m at';
+        }
+
+        rooms : roomIn (w .table) (some m) ≡ roomIn (v .table) (some n)
+        rooms = sym (room-from (some n) (some m) same)
+
+        right : Into a m (take (roomIn (v .table) (some n)) users) w
+        right = subst (λ (r : ℕ). Into a m (take r users) w) rooms right'
+
+        -- The second drive's first write, of as many user addresses as the first one's.
+        abbrev second : Written
+        second = writtenInto a m (take (roomIn (v .table) (some n)) users) w
+
+        second-is : second ≡ first'
+        second-is = ap (λ (r : ℕ). writtenInto a m (take r users) w) (sym rooms)
+
+        rest-same : Same a (restOf a k (some n) users v) (restOf a k (some m) users w)
+        rest-same =
+            onward-same a k users (news (some n) (some m) same) (sym rooms)
+            (subst (λ (z : Written). Alike a (first .drive) (z .drive)) second-is (into-alike (p .alike) left right same))
+            (some-onward asked n at) (some-onward asked' m at')
+
+        serials : serialAt (restOf a k (some n) users v .drive) n ≡ serialAt (restOf a k (some m) users w .drive) m
+        serials =
+            onward-serial a k _ _ (first .drive) (some-onward asked n at) n (into-holds left)
+            ∙ ap (λ (h : Holding). h .serial) (into-same (p .alike) left right same)
+            ∙ ap (λ (z : Written). serialAt (z .drive) m) second-is
+            ∙ sym (onward-serial a k _ _ (first' .drive) (some-onward asked' m at') m (into-holds right'))
+
+        first-read : map (readAddress (restOf a k (some n) users v .drive)) (first .addresses)
+            ≡ map (readAddress (restOf a k (some m) users w .drive)) (first' .addresses)
+        first-read =
+            into-read (p .alike) left right same (restOf a k (some n) users v .drive) (restOf a k (some m) users w .drive)
+            (p .left .facts .limits)
+            (onward-sequel a k _ _ (first .drive) (some-onward asked n at) .sequel .config ∙ into-config left)
+            (onward-sequel a k _ _ (first' .drive) (some-onward asked' m at') .sequel .config ∙ into-config right')
+            serials
+            ∙ ap (λ (z : Written). map (readAddress (restOf a k (some m) users w .drive)) (z .addresses)) second-is
+
+        whole-some : Same a (join first (restOf a k (some n) users v)) (join first' (restOf a k (some m) users w))
+        whole-some = joined first first' (restOf a k (some n) users v) (restOf a k (some m) users w) rest-same first-read
+
+      by-found : (x y : Option ℕ) → found ≡ x → found' ≡ y → SameOpen a v w x y
+          → Same a (join (firstOf a x users v) (restOf a k x users v)) (join (firstOf a y users w) (restOf a k y users w))
+      by-found none none at at' same = whole-none at at'
+      by-found none (some m) at at' same = absurd same
+      by-found (some n) none at at' same = absurd same
+      by-found (some n) (some m) at at' same = whole-some n m at at' same
+
+      placement-same : Same a (writtenByPlacement a k users v) (writtenByPlacement a k users w)
+      placement-same =
+          subst (λ (z : Written). Same a z (writtenByPlacement a k users w)) (sym (placement-is a k users v found refl))
+          (subst (Same a (join (firstOf a found users v) (restOf a k found users v))) (sym (placement-is a k users w found' refl))
+          (by-found found found' refl refl open-same))
+
+      placement-alike : Alike a (effect (WriteByPlacement a k start count) v .drive) (effect (WriteByPlacement a k start count) w .drive)
+      unfolding effect
+      placement-alike = placement-same .alike
+
+      placement-told : (bytes other : List ℕ) → bytes ≡ [] → other ≡ []
+          → told v (WriteByPlacement a k start count) bytes ≡ told w (WriteByPlacement a k start count) other
+      unfolding effect
+      placement-told bytes other b o = rw (b, o) (ap (λ (l : List FlashAddress). addressesTold l) (placement-same .read))
+
+    pub write-placement-twin : Twin a v w lent (WriteByPlacement a k start count) (WriteByPlacement a k start count)
+    write-placement-twin = record {
+      reading = refl;
+      verdicts = placement-verdicts;
+      after = λ e f. placement-alike e f;
+      telling = λ e f bytes other b o. placement-told e f bytes other b o;
+    }
