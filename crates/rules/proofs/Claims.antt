@@ -16,7 +16,9 @@ use Rattle.rules.specs.Blocks.{anyBlock, chosenBlock, newBlocks}
 use Rattle.rules.specs.Drive.{Drive, blockAt, heldCount, isOpen, size}
 use Rattle.rules.specs.Effects.{driveAfter, verdict, wordsFilled}
 use Rattle.rules.specs.Example.{NotEmpty}
-use Rattle.rules.specs.Noninterference.{Exchange, Guaranteed, Indistinguishable, LentOwn, Replied, Shaped, StillSound, calls, closesByPulse, elapsed, fullyReserved, places}
+use Rattle.rules.specs.Claims.{Guaranteed, LentOwn, Shaped, StillSound}
+use Rattle.rules.specs.Countdown.{closesByPulse, elapsed}
+use Rattle.rules.specs.Noninterference.{Exchange, Indistinguishable, Replied, calls, fullyReserved, inputs}
 use Rattle.rules.specs.Questions.{Lengths}
 use Rattle.rules.specs.Runs.{Call, begun, reference, step}
 use Rattle.rules.specs.Soundness.{sound}
@@ -102,7 +104,7 @@ pub always-replied : (ks : List Call) (v : Drive) → (xs : List Exchange) × (c
 always-replied ks v = example.exchanged ks v
 
 -- Two lists of calls with their replies, from the start of one configuration with two first stores, in which the domain a is fully
--- reserved and has the same places: after as many places in both, wherever each list stands between two of them, a has observed
+-- reserved and has the same inputs: after as many inputs in both, wherever each list stands between two of them, a has observed
 -- the same and holds the same.
 pub noninterference : (c : Config) (a : ℕ) (xs ys : List Exchange) (store other : List ℕ)
     → withinLimits c ≡ true
@@ -113,9 +115,9 @@ pub noninterference : (c : Config) (a : ℕ) (xs ys : List Exchange) (store othe
     → Replied ys (begun c other)
     → fullyReserved a (calls xs) (begun c store) ≡ true
     → fullyReserved a (calls ys) (begun c other) ≡ true
-    → places a (calls xs) (begun c store) ≡ places a (calls ys) (begun c other)
+    → inputs a (calls xs) (begun c store) ≡ inputs a (calls ys) (begun c other)
     → (i j : ℕ)
-    → length (places a (calls (take i xs)) (begun c store)) ≡ length (places a (calls (take j ys)) (begun c other))
+    → length (inputs a (calls (take i xs)) (begun c store)) ≡ length (inputs a (calls (take j ys)) (begun c other))
     → Indistinguishable a (take i xs) (take j ys) (begun c store) (begun c other)
 noninterference c a xs ys store other within id whole whole' replied replied' reserved reserved' same i j as-many =
     moments.every-moment c within a id store other whole whole' xs ys replied replied' reserved reserved' same i j as-many

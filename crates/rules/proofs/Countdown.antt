@@ -27,7 +27,7 @@ use Rattle.rules.specs.Counting.{implies}
 use Rattle.rules.specs.Domains.{deletedDomain, freedIfHeld}
 use Rattle.rules.specs.Drive.{Drive, blockAt, heldBy, isClosed, isClosedState, isFree, isFreeState, isOpen, isOpenState, openBlock, size, withBlock}
 use Rattle.rules.specs.Effects.{accepted, driveAfter, effect, erasing, verdict}
-use Rattle.rules.specs.Noninterference.{closesByPulse, elapsed, elapsedFrom, pulseOf, secondsOf}
+use Rattle.rules.specs.Countdown.{closesByPulse, elapsed, elapsedFrom, pulseOf, secondsOf}
 use Rattle.rules.specs.Questions.{Lengths, isErasedAgain, isHeld, mayErase, questions}
 use Rattle.rules.specs.Runs.{Call, begun, reference, run, step}
 use Rattle.rules.specs.Start.{Started}

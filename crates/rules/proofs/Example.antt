@@ -11,8 +11,8 @@ use Rattle.rules.specs.Counting.{allTo, numbersTo, rowTo, sumTo}
 use Rattle.rules.specs.Domains.{changedDomain, coverage, createdDomain, deletedDomain}
 use Rattle.rules.specs.Drive.{Drive, closedCount, heldCount, openBlockTo, openCount, overwritten}
 use Rattle.rules.specs.Effects.{accepted, answerTo, driveAfter, effect, wordsFilled}
-use Rattle.rules.specs.Example.{NotEmpty, blocksOf, busy, busyHalf, busyNumbers, numbersTold, quiet, quietHalf, quietNumbers, samePlaces, sevens, zeros}
-use Rattle.rules.specs.Noninterference.{Exchange, Replied, calls, fullyReserved, places}
+use Rattle.rules.specs.Example.{NotEmpty, blocksOf, busy, busyHalf, busyNumbers, numbersTold, quiet, quietHalf, quietNumbers, sameInputs, sevens, zeros}
+use Rattle.rules.specs.Noninterference.{Exchange, Replied, calls, fullyReserved, inputs}
 use Rattle.rules.specs.Observation.{Reply, requestOf}
 use Rattle.rules.specs.Questions.{questions, userAddressesFit}
 use Rattle.rules.specs.Runs.{Call, answers, run, step}
@@ -22,7 +22,7 @@ use Rattle.rules.proofs.Effects.{fill-if}
 
 -- To unfold this is to unfold every definition that a run computes with.
 machine : Unit {0}
-unfolding fieldsOf leastFrom offsetBits wordOf answered firstNo adusPerBlock drivePlanes eachInRange planesPerBlock storeLength stretchStart wholeBlocks withinLimits closed countedDown writtenOn chosenTo matches newBlocks openedFor userAddress writtenByPlacement writtenInto writtenOnwards allTo numbersTo rowTo sumTo changedDomain coverage createdDomain deletedDomain closedCount heldCount openBlockTo openCount overwritten driveAfter effect fullyReserved places requestOf run answers questions userAddressesFit sound started
+unfolding fieldsOf leastFrom offsetBits wordOf answered firstNo adusPerBlock drivePlanes eachInRange planesPerBlock storeLength stretchStart wholeBlocks withinLimits closed countedDown writtenOn chosenTo matches newBlocks openedFor userAddress writtenByPlacement writtenInto writtenOnwards allTo numbersTo rowTo sumTo changedDomain coverage createdDomain deletedDomain closedCount heldCount openBlockTo openCount overwritten driveAfter effect fullyReserved inputs requestOf run answers questions userAddressesFit sound started
 machine = tt
 
 -- ---- The two lists
@@ -35,13 +35,13 @@ busy-reserved : fullyReserved 1 busy sevens ≡ true
 unfolding machine
 busy-reserved = refl
 
-quiet-places : places 1 quiet zeros ≡ samePlaces
+quiet-inputs : inputs 1 quiet zeros ≡ sameInputs
 unfolding machine
-quiet-places = refl
+quiet-inputs = refl
 
-busy-places : places 1 busy sevens ≡ samePlaces
+busy-inputs : inputs 1 busy sevens ≡ sameInputs
 unfolding machine
-busy-places = refl
+busy-inputs = refl
 
 quiet-halfway : blocksOf (run quietHalf zeros) ≡ (0, 1) ∷ (1, 2) ∷ (2, 3) ∷ []
 unfolding machine
@@ -71,8 +71,8 @@ pub not-empty : NotEmpty
 not-empty = record {
   quiet-reserved = quiet-reserved;
   busy-reserved = busy-reserved;
-  quiet-places = quiet-places;
-  busy-places = busy-places;
+  quiet-inputs = quiet-inputs;
+  busy-inputs = busy-inputs;
   quiet-halfway = quiet-halfway;
   busy-halfway = busy-halfway;
   quiet-end = quiet-end;

@@ -1,4 +1,4 @@
--- What the laws in proofs/Laws.antt say, where that takes a definition of its own.
+-- What proofs/Laws.antt and proofs/Claims.antt say, where that takes a definition of its own.
 use Prim.Native.Nat.{ℕ, _+_, _≤_, _<_}
 use mathlib.Core.Bool.{Bool, true, false, _&&_, cond}
 use mathlib.Core.List.{List, [], _∷_}
@@ -8,13 +8,17 @@ use lib.ListN.{drop, getD, length, replicate, take}
 use Rattle.geometry.specs.Address.{fieldsOf}
 use Rattle.geometry.specs.Bytes.{littleEndian}
 use Rattle.geometry.specs.Questions.{Question, refusal}
+use Rattle.geometry.specs.Shape.{storeLength}
 use Rattle.model.specs.Blocks.{Change, allChanges, changedBy, opensNewly}
 use Rattle.model.specs.declared.block.Block.{Block}
 use Rattle.model.specs.declared.table.Table.{Table}
 use Rattle.rules.specs.Blocks.{stored}
-use Rattle.rules.specs.Drive.{Drive, blockAt, capacity, clearDomain, closedOf, domainAt, heldBy, isFree, isOpen, size}
+use Rattle.rules.specs.Domains.{covered}
+use Rattle.rules.specs.Drive.{Drive, blockAt, capacity, clearDomain, closedOf, domainAt, heldBy, heldCount, isFree, isOpen, size}
 use Rattle.rules.specs.Effects.{Served}
 use Rattle.rules.specs.LogPages.{integrity, listOf, placementField, stateByte, timesIn, wearIndex}
+use Rattle.rules.specs.Questions.{Lengths}
+use Rattle.rules.specs.Soundness.{sound}
 
 -- Questions whose numbers rise, from above the last one to at most 16.
 unfoldable pub rising : ℕ → List Question → Bool
@@ -83,3 +87,24 @@ pub record Layout (t : Table) (n : ℕ) (bytes : List ℕ) : Type 0 where
   pub written : bytesAt 20 4 bytes ≡ littleEndian 4 (cond (isOpen (blockAt t n)) (blockAt t n .written .0) 0)
   pub serial : bytesAt 24 4 bytes ≡ littleEndian 4 (blockAt t n .serial)
   pub rest : drop 28 bytes ≡ replicate 228 0
+
+-- Covered means that the coverage rule holds; no quota is passed when no domain holds more blocks than its quota.
+pub record Guaranteed (t : Table) : Type 0 where
+  pub coverage : covered t ≡ true
+  pub quotas : (d : ℕ) → 1 ≤ d → d ≤ 16 → heldCount t d ≤ domainAt t d .quota
+
+-- A table has a record for each of the 16 domains and the 256 blocks.
+pub record Shaped (t : Table) : Type 0 where
+  pub domains : length (t .domains) ≡ 16
+  pub blocks : length (t .blocks) ≡ 256
+
+-- A call that is lent S × C entries is lent the drive's own store.
+abbrev pub LentOwn : Drive → Lengths → Type 0
+LentOwn v lent =
+    lent .store ≡ storeLength (v .table .config) .0 → length (v .store) ≡ storeLength (v .table .config) .0
+
+-- What a call leaves of a drive with a sound table: another, of the same shape, and a store of as many entries.
+pub record StillSound (v w : Drive) : Type 0 where
+  pub still-sound : sound (w .table) ≡ true
+  pub still-shaped : Shaped (w .table)
+  pub same-length : length (w .store) ≡ length (v .store)

@@ -14,8 +14,8 @@ use Rattle.model.specs.declared.command.Command.the-variants.{WriteByBlock, Wri
 use Rattle.model.specs.declared.command.Listed.the-variants as listed
 use Rattle.rules.specs.Blocks.{anyBlock}
 use Rattle.rules.specs.Drive.{Drive}
-use Rattle.rules.specs.Noninterference.{fullyReserved, places}
-use Rattle.rules.specs.Observation.{Name, Place, Request, serialAt}
+use Rattle.rules.specs.Noninterference.{fullyReserved, inputs}
+use Rattle.rules.specs.Observation.{Name, Input, Request, serialAt}
 use Rattle.rules.specs.ProvedTable.{call, calls, domain1, enough, freshStore, heldIn, small}
 use Rattle.rules.specs.Questions.{Lengths}
 use Rattle.rules.specs.Runs.{Call, answers, begun, run}
@@ -141,9 +141,9 @@ zeros = begun small freshStore
 abbrev pub sevens : Drive
 sevens = begun small (replicate 1024 7)
 
--- A's places, the same in both lists.
-abbrev pub place : Request → Place
-place request = record { request = request; lent = enough }
+-- A's inputs, the same in both lists.
+abbrev pub input : Request → Input
+input request = record { request = request; lent = enough }
 
 abbrev pub eraseAny : Request
 eraseAny = Request.erase (Name.noBlock 4294967295)
@@ -151,32 +151,32 @@ eraseAny = Request.erase (Name.noBlock 4294967295)
 abbrev pub readSecond : Request
 readSecond = Request.read (Name.held 2) 1 (adus 100) (adus 28) 200
 
-abbrev pub samePlaces : List Place
-samePlaces =
-    place Request.delete
-    ∷ place (Request.create (planes 300) (planes 200) 2 1)
-    ∷ place eraseAny
+abbrev pub sameInputs : List Input
+sameInputs =
+    input Request.delete
+    ∷ input (Request.create (planes 300) (planes 200) 2 1)
+    ∷ input eraseAny
     ∷ record { request = eraseAny; lent = shortStore }
-    ∷ place (Request.writeByBlock (Name.held 1) 5 (adus 10))
-    ∷ place (Request.writeByPlacement 0 100 (adus 100))
-    ∷ place (Request.writeByPlacement 0 200 (adus 30))
-    ∷ place eraseAny
-    ∷ place (Request.pulse 59)
-    ∷ place readSecond
+    ∷ input (Request.writeByBlock (Name.held 1) 5 (adus 10))
+    ∷ input (Request.writeByPlacement 0 100 (adus 100))
+    ∷ input (Request.writeByPlacement 0 200 (adus 30))
+    ∷ input eraseAny
+    ∷ input (Request.pulse 59)
+    ∷ input readSecond
     ∷ record { request = readSecond; lent = shortOutput }
-    ∷ place (Request.changeCapacity (planes 0) (planes 0))
-    ∷ place (Request.changeCapacity (planes 1024) (planes 0))
-    ∷ place (Request.close (Name.held 1))
-    ∷ place (Request.close Name.other)
-    ∷ place (Request.page (Name.held 1))
-    ∷ place (Request.list listed.Open)
-    ∷ place (Request.pulse 1)
-    ∷ place (Request.list listed.Closed)
-    ∷ place (Request.erase (Name.held 2))
-    ∷ place (Request.writeByBlock (Name.held 4) (3 * 2 ^ 40) (adus 128))
-    ∷ place (Request.free (Name.held 3))
-    ∷ place eraseAny
-    ∷ place (Request.create (planes 300) (planes 200) 2 1)
+    ∷ input (Request.changeCapacity (planes 0) (planes 0))
+    ∷ input (Request.changeCapacity (planes 1024) (planes 0))
+    ∷ input (Request.close (Name.held 1))
+    ∷ input (Request.close Name.other)
+    ∷ input (Request.page (Name.held 1))
+    ∷ input (Request.list listed.Open)
+    ∷ input (Request.pulse 1)
+    ∷ input (Request.list listed.Closed)
+    ∷ input (Request.erase (Name.held 2))
+    ∷ input (Request.writeByBlock (Name.held 4) (3 * 2 ^ 40) (adus 128))
+    ∷ input (Request.free (Name.held 3))
+    ∷ input eraseAny
+    ∷ input (Request.create (planes 300) (planes 200) 2 1)
     ∷ []
 
 -- The number that each call gets.
@@ -217,14 +217,14 @@ busyNumbers =
 abbrev pub blocksOf : Drive → List (ℕ × ℕ)
 blocksOf v = map (λ (n : ℕ). (n, serialAt v n)) (heldIn v)
 
--- Both lists are as noninterference asks, and A's places in them are the same; each call gets its number, so the neighbours are
+-- Both lists are as noninterference asks, and A's inputs in them are the same; each call gets its number, so the neighbours are
 -- refused where the drive is full; and under the same serials A holds blocks of other numbers, and in another order, halfway and
 -- in the end.
 pub record NotEmpty : Type 0 where
   pub quiet-reserved : fullyReserved 1 quiet zeros ≡ true
   pub busy-reserved : fullyReserved 1 busy sevens ≡ true
-  pub quiet-places : places 1 quiet zeros ≡ samePlaces
-  pub busy-places : places 1 busy sevens ≡ samePlaces
+  pub quiet-inputs : inputs 1 quiet zeros ≡ sameInputs
+  pub busy-inputs : inputs 1 busy sevens ≡ sameInputs
   pub quiet-numbers : numbersTold quiet zeros ≡ quietNumbers
   pub busy-numbers : numbersTold busy sevens ≡ busyNumbers
   pub quiet-halfway : blocksOf (run quietHalf zeros) ≡ (0, 1) ∷ (1, 2) ∷ (2, 3) ∷ []

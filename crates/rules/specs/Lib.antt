@@ -11,6 +11,7 @@ pub mod Effects
 pub mod Runs
 pub mod Observation
 pub mod Noninterference
+pub mod Countdown
 pub mod ProvedTable
 pub mod WrongTurns
 pub mod Claims

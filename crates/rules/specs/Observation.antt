@@ -120,12 +120,12 @@ requestOf a v (Listing d which) = list which
 requestOf a v (Pulse seconds) = pulse seconds
 
 -- 01: a place. The same kind, arguments and lent lengths.
-pub record Place : Type 0 where
+pub record Input : Type 0 where
   pub request : Request
   pub lent : Lengths
 
-abbrev pub placeOf : ℕ → Drive → Call → Place
-placeOf a v k = record { request = requestOf a v (k .command); lent = k .lent }
+abbrev pub inputOf : ℕ → Drive → Call → Input
+inputOf a v k = record { request = requestOf a v (k .command); lent = k .lent }
 
 -- ---- What A is told
 

@@ -16,7 +16,7 @@ use Rattle.model.specs.declared.command.Command.the-variants.{WriteByBlock, Wri
 use Rattle.rules.specs.Blocks.{anyBlock, chosenBlock, newBlocks, userAddress}
 use Rattle.rules.specs.Drive.{Drive, heldCount}
 use Rattle.rules.specs.Effects.{accepted, driveAfter, effect, verdict, wordsFilled}
-use Rattle.rules.specs.Noninterference.{LentOwn, Shaped, StillSound}
+use Rattle.rules.specs.Claims.{LentOwn, Shaped, StillSound}
 use Rattle.rules.specs.Observation.{isPulse}
 use Rattle.rules.specs.Questions.{Lengths, questions}
 use Rattle.rules.specs.Runs.{Call, ownDomain, run, step}

@@ -17,7 +17,7 @@ use Rattle.model.specs.declared.table.Table.{Table}
 use Rattle.rules.specs.Blocks.{anyBlock, chosenBlock, freedAt, openedFor}
 use Rattle.rules.specs.Drive.{Drive, blockAt, domainAt, heldCount, isFree, openCount, size}
 use Rattle.rules.specs.Effects.{effect, verdict}
-use Rattle.rules.specs.Noninterference.{LentOwn, Shaped}
+use Rattle.rules.specs.Claims.{LentOwn, Shaped}
 use Rattle.rules.specs.Observation.{Holding, holdingAt}
 use Rattle.rules.specs.Questions.{Lengths, isHeld, newOfErase, questions, storeFits}
 use Rattle.rules.proofs.Blocks.{Choice, choice}

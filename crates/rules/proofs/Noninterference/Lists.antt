@@ -1,4 +1,4 @@
--- Two whole lists of calls in which a fully reserved domain has the same places: by one induction, with the neighbours' calls passed
+-- Two whole lists of calls in which a fully reserved domain has the same inputs: by one induction, with the neighbours' calls passed
 -- over on either side.
 use Prim.Native.Nat.{ℕ, _≤_}
 use mathlib.Core.Bool.{Bool, true, false, true≢false, _||_}
@@ -8,8 +8,8 @@ use lib.Dec.{eqb}
 use borrow.Author.Tests.{eqb-false}
 use Rattle.geometry.proofs.Laws.Shape.{both, by-test}
 use Rattle.rules.specs.Drive.{Drive}
-use Rattle.rules.specs.Noninterference.{Exchange, Replied, calls, erasesOwn, fullyReserved, notUncovered, observations, places, reservesAll, staysReserved}
-use Rattle.rules.specs.Observation.{Place, Replies, Reply, concerns, isPulse, observed, placeOf}
+use Rattle.rules.specs.Noninterference.{Exchange, Replied, calls, erasesOwn, fullyReserved, notUncovered, observations, inputs, reservesAll, staysReserved}
+use Rattle.rules.specs.Observation.{Input, Replies, Reply, concerns, isPulse, observed, inputOf}
 use Rattle.rules.specs.Questions.{Lengths}
 use Rattle.rules.specs.Runs.{Call, ownDomain, run, step}
 use Rattle.rules.proofs.Noninterference.Common.{Pair}
@@ -91,21 +91,21 @@ twin-calls {a} {v} {w} k l alike e twin =
 
 -- ---- The induction
 
-firstOr : Place → List Place → Place
+firstOr : Input → List Input → Input
 firstOr p [] = p
 firstOr p (q ∷ qs) = q
 
-rest-of : List Place → List Place
+rest-of : List Input → List Input
 rest-of [] = []
 rest-of (q ∷ qs) = qs
 
-same-first : (p q : Place) (ps qs : List Place) → p ∷ ps ≡ q ∷ qs → p ≡ q
+same-first : (p q : Input) (ps qs : List Input) → p ∷ ps ≡ q ∷ qs → p ≡ q
 unfolding firstOr
-same-first p q ps qs e = ap (λ (l : List Place). firstOr p l) e
+same-first p q ps qs e = ap (λ (l : List Input). firstOr p l) e
 
-same-rest : (p q : Place) (ps qs : List Place) → p ∷ ps ≡ q ∷ qs → ps ≡ qs
+same-rest : (p q : Input) (ps qs : List Input) → p ∷ ps ≡ q ∷ qs → ps ≡ qs
 unfolding rest-of
-same-rest p q ps qs e = ap (λ (l : List Place). rest-of l) e
+same-rest p q ps qs e = ap (λ (l : List Input). rest-of l) e
 
 module _ (a : ℕ) (low : 1 ≤ a) (high : a ≤ 16) where
   pair : (v w : Drive) → Alike a v w → Course v → Course w → reservesAll a v ≡ true → reservesAll a w ≡ true → Pair a v w
@@ -119,9 +119,9 @@ module _ (a : ℕ) (low : 1 ≤ a) (high : a ≤ 16) where
     right-reserves = q;
   }
 
-  -- No place is left: only neighbours' calls are.
-  all-neighbours : (ys : List Exchange) (v w : Drive) → Alike a v w → Given a ys w → places a (calls ys) w ≡ [] → Result a [] ys v w
-  unfolding places observations run
+  -- No input is left: only neighbours' calls are.
+  all-neighbours : (ys : List Exchange) (v w : Drive) → Alike a v w → Given a ys w → inputs a (calls ys) w ≡ [] → Result a [] ys v w
+  unfolding inputs observations run
   all-neighbours [] v w s g e = record { same = refl; alike = s }
   all-neighbours (y ∷ ys) v w s g e =
       by-test (concerns a (y .call .command))
@@ -132,40 +132,40 @@ module _ (a : ℕ) (low : 1 ≤ a) (high : a ≤ 16) where
       (given-next a y ys w g) (rw foreign at e) in
       record { same = rw foreign (r .same); alike = r .alike })
 
-  -- A place on the left: the next one on the right is the same, behind neighbours' calls. `on` is the induction for what follows.
+  -- An input on the left: the next one on the right is the same, behind neighbours' calls. `on` is the induction for what follows.
   module _ (x : Exchange) (xs : List Exchange) (v : Drive) (own : concerns a (x .call .command) ≡ true) (g : Given a (x ∷ xs) v)
       (on : (ys : List Exchange) (w : Drive) → Alike a (step (x .call) v) w → Given a ys w
-      → places a (calls xs) (step (x .call) v) ≡ places a (calls ys) w → Result a xs ys (step (x .call) v) w) where
-    abbrev here : Place
-    here = placeOf a v (x .call)
+      → inputs a (calls xs) (step (x .call) v) ≡ inputs a (calls ys) w → Result a xs ys (step (x .call) v) w) where
+    abbrev here : Input
+    here = inputOf a v (x .call)
 
-    abbrev later : List Place
-    later = places a (calls xs) (step (x .call) v)
+    abbrev later : List Input
+    later = inputs a (calls xs) (step (x .call) v)
 
-    -- Both are the domain's: the same place.
+    -- Both are the domain's: the same input.
     met : (y : Exchange) (ys : List Exchange) (w : Drive) → Alike a v w → Given a (y ∷ ys) w → concerns a (y .call .command) ≡ true
-        → here ≡ placeOf a w (y .call)
-        → later ≡ places a (calls ys) (step (y .call) w)
+        → here ≡ inputOf a w (y .call)
+        → later ≡ inputs a (calls ys) (step (y .call) w)
         → (observed v (x .call) (x .reply) ≡ observed w (y .call) (y .reply)) × Result a xs ys (step (x .call) v) (step (y .call) w)
     met y ys w s h own' same after =
-        let e = ap (λ (z : Place). z .lent) same in
+        let e = ap (λ (z : Input). z .lent) same in
         let b = begins a x xs v (g .reserved) in
         let b' = begins a y ys w (h .reserved) in
         let p = pair v w s (g .course) (h .course) (g .reserves) (h .reserves) in
         let twin =
         same-twins p (x .call .lent) (x .call .command) (y .call .command) (b .proper)
         (subst (λ (z : Lengths). Proper a w z (y .call .command)) (sym e) (b' .proper))
-        own own' (ap (λ (z : Place). z .request) same) in
+        own own' (ap (λ (z : Input). z .request) same) in
         let r = twin-calls (x .call) (y .call) s e twin in (
           r .1 (x .reply) (y .reply) (first-reply x xs v (g .replied)) (first-reply y ys w (h .replied)),
           on ys (step (y .call) w) (r .0) (given-next a y ys w h) after,
         )
 
-    next-place : (ys : List Exchange) (w : Drive) → Alike a v w → Given a ys w → here ∷ later ≡ places a (calls ys) w
+    next-input : (ys : List Exchange) (w : Drive) → Alike a v w → Given a ys w → here ∷ later ≡ inputs a (calls ys) w
         → Result a (x ∷ xs) ys v w
-    unfolding places observations run
-    next-place [] w s h e = absurd (nil≢cons (sym e))
-    next-place (y ∷ ys) w s h e =
+    unfolding inputs observations run
+    next-input [] w s h e = absurd (nil≢cons (sym e))
+    next-input (y ∷ ys) w s h e =
         by-test (concerns a (y .call .command))
         (λ own'.
         let q = rw own' at e in
@@ -173,17 +173,17 @@ module _ (a : ℕ) (low : 1 ≤ a) (high : a ≤ 16) where
         record { same = rw (own, own') (ap₂ _∷_ (r .0) (r .1 .same)); alike = r .1 .alike })
         (λ foreign.
         let r =
-        next-place ys (step (y .call) w) (alike-then s (neighbour a (y .call) w low (h .course) foreign)) (given-next a y ys w h) (rw foreign at e) in
+        next-input ys (step (y .call) w) (alike-then s (neighbour a (y .call) w low (h .course) foreign)) (given-next a y ys w h) (rw foreign at e) in
         record { same = rw foreign (r .same); alike = r .alike })
 
   pub both-lists : (xs ys : List Exchange) (v w : Drive) → Alike a v w → Given a xs v → Given a ys w
-      → places a (calls xs) v ≡ places a (calls ys) w → Result a xs ys v w
-  unfolding places observations run
+      → inputs a (calls xs) v ≡ inputs a (calls ys) w → Result a xs ys v w
+  unfolding inputs observations run
   both-lists [] ys v w s g h e = all-neighbours ys v w s h (sym e)
   both-lists (x ∷ xs) ys v w s g h e =
       by-test (concerns a (x .call .command))
       (λ own.
-      next-place x xs v own g
+      next-input x xs v own g
       (λ zs u s' h' e'. both-lists xs zs (step (x .call) v) u s' (given-next a x xs v g) h' e')
       ys w s h (rw own at e))
       (λ foreign.

@@ -11,8 +11,9 @@ use Rattle.geometry.specs.Address.{isDomainId}
 use Rattle.geometry.specs.Shape.{storeLength, withinLimits}
 use Rattle.geometry.specs.declared.shape.Config.{Config}
 use Rattle.rules.specs.Drive.{Drive, blockAt, heldBy}
-use Rattle.rules.specs.Noninterference.{Exchange, Guaranteed, Indistinguishable, Replied, calls, erasesOwn, fullyReserved, notUncovered, places, reservesAll, staysReserved}
-use Rattle.rules.specs.Observation.{Place, concerns, placeOf}
+use Rattle.rules.specs.Claims.{Guaranteed}
+use Rattle.rules.specs.Noninterference.{Exchange, Indistinguishable, Replied, calls, erasesOwn, fullyReserved, notUncovered, inputs, reservesAll, staysReserved}
+use Rattle.rules.specs.Observation.{Input, concerns, inputOf}
 use Rattle.rules.specs.Runs.{Call, begun, reference, step}
 use Rattle.rules.specs.Start.{emptyTable}
 use Rattle.rules.proofs.Kept.OneBlock.{view-none}
@@ -77,16 +78,16 @@ reserved-take a (suc i) (x ∷ xs) v e =
     let h = both here (fullyReserved a (calls xs) (step k v)) e in
     rw (h .0, reserved-take a i xs (step k v) (h .1))
 
--- The places of a beginning are the first of the list's places.
-places-take : (a i : ℕ) (xs : List Exchange) (v : Drive)
-    → places a (calls (take i xs)) v ≡ take (length (places a (calls (take i xs)) v)) (places a (calls xs) v)
-unfolding places
-places-take a zero xs v = refl
-places-take a (suc i) [] v = refl
-places-take a (suc i) (x ∷ xs) v =
+-- The inputs of a beginning are the first of the list's inputs.
+inputs-take : (a i : ℕ) (xs : List Exchange) (v : Drive)
+    → inputs a (calls (take i xs)) v ≡ take (length (inputs a (calls (take i xs)) v)) (inputs a (calls xs) v)
+unfolding inputs
+inputs-take a zero xs v = refl
+inputs-take a (suc i) [] v = refl
+inputs-take a (suc i) (x ∷ xs) v =
     by-test (concerns a (x .call .command))
-    (λ own. rw own (ap (λ (l : List Place). placeOf a v (x .call) ∷ l) (places-take a i xs (step (x .call) v))))
-    (λ foreign. rw foreign (places-take a i xs (step (x .call) v)))
+    (λ own. rw own (ap (λ (l : List Input). inputOf a v (x .call) ∷ l) (inputs-take a i xs (step (x .call) v))))
+    (λ foreign. rw foreign (inputs-take a i xs (step (x .call) v)))
 
 -- ---- The claims
 
@@ -118,7 +119,7 @@ module _ (c : Config) (within : withinLimits c ≡ true) where
 
     from-empty : (xs ys : List Exchange) → Replied xs one → Replied ys two
         → fullyReserved a (calls xs) one ≡ true → fullyReserved a (calls ys) two ≡ true
-        → places a (calls xs) one ≡ places a (calls ys) two
+        → inputs a (calls xs) one ≡ inputs a (calls ys) two
         → Indistinguishable a xs ys one two
     from-empty xs ys r s f g e =
         let b = is-between 1 16 a id in
@@ -132,19 +133,19 @@ module _ (c : Config) (within : withinLimits c ≡ true) where
 
     moment-empty : (xs ys : List Exchange) → Replied xs one → Replied ys two
         → fullyReserved a (calls xs) one ≡ true → fullyReserved a (calls ys) two ≡ true
-        → places a (calls xs) one ≡ places a (calls ys) two
-        → (i j : ℕ) → length (places a (calls (take i xs)) one) ≡ length (places a (calls (take j ys)) two)
+        → inputs a (calls xs) one ≡ inputs a (calls ys) two
+        → (i j : ℕ) → length (inputs a (calls (take i xs)) one) ≡ length (inputs a (calls (take j ys)) two)
         → Indistinguishable a (take i xs) (take j ys) one two
     moment-empty xs ys r s f g e i j same =
         from-empty (take i xs) (take j ys) (replied-take i xs one r) (replied-take j ys two s)
         (reserved-take a i xs one f) (reserved-take a j ys two g)
-        (places-take a i xs one ∙ ap₂ (λ (n : ℕ) (l : List Place). take n l) same e ∙ sym (places-take a j ys two))
+        (inputs-take a i xs one ∙ ap₂ (λ (n : ℕ) (l : List Input). take n l) same e ∙ sym (inputs-take a j ys two))
 
     -- The same from the drives with which runs begin.
     pub every-moment : (xs ys : List Exchange) → Replied xs (begun c store) → Replied ys (begun c other)
         → fullyReserved a (calls xs) (begun c store) ≡ true → fullyReserved a (calls ys) (begun c other) ≡ true
-        → places a (calls xs) (begun c store) ≡ places a (calls ys) (begun c other)
-        → (i j : ℕ) → length (places a (calls (take i xs)) (begun c store)) ≡ length (places a (calls (take j ys)) (begun c other))
+        → inputs a (calls xs) (begun c store) ≡ inputs a (calls ys) (begun c other)
+        → (i j : ℕ) → length (inputs a (calls (take i xs)) (begun c store)) ≡ length (inputs a (calls (take j ys)) (begun c other))
         → Indistinguishable a (take i xs) (take j ys) (begun c store) (begun c other)
     every-moment xs ys =
         subst (λ (v : Drive). Claimed xs ys v (begun c other)) (sym (begun-empty c store within))
@@ -154,6 +155,6 @@ module _ (c : Config) (within : withinLimits c ≡ true) where
         Claimed xs ys v w =
             Replied xs v → Replied ys w
             → fullyReserved a (calls xs) v ≡ true → fullyReserved a (calls ys) w ≡ true
-            → places a (calls xs) v ≡ places a (calls ys) w
-            → (i j : ℕ) → length (places a (calls (take i xs)) v) ≡ length (places a (calls (take j ys)) w)
+            → inputs a (calls xs) v ≡ inputs a (calls ys) w
+            → (i j : ℕ) → length (inputs a (calls (take i xs)) v) ≡ length (inputs a (calls (take j ys)) w)
             → Indistinguishable a (take i xs) (take j ys) v w

@@ -1,10 +1,14 @@
 -- Two calls of a domain that have the same place: whatever the kind, they are twins.
 use Prim.Native.Nat.{ℕ}
-use mathlib.Core.Bool.{true, not, true≢false}
+use mathlib.Core.Bool.{Bool, true, false, not, true≢false}
+use mathlib.Core.List.{List, _∷_}
 use mathlib.Core.Path.{_≡_, refl, sym, ap, _∙_, subst}
+use native.Mathlib.Omega.{arith}
 use lib.Dec.{eqb}
 use borrow.Author.Tests.{eq-eqb, eqb-true}
+use Rattle.geometry.proofs.Laws.Shape.{by-test}
 use Rattle.geometry.specs.Address.{fieldsOf}
+use Rattle.geometry.specs.Questions.{Question, ask, firstNo}
 use Rattle.geometry.specs.declared.shape.Planes.{Planes}
 use Rattle.model.specs.declared.command.Command.{Command}
 use Rattle.model.specs.declared.command.Command.the-variants.{ChangeCapacity, Close, Create, Delete, Erase, Free, List as Listing, Page, Pulse, Read}
@@ -14,7 +18,8 @@ use Rattle.rules.specs.Effects.{driveAfter, verdict}
 use Rattle.rules.specs.Noninterference.{erasesOwn, notUncovered, staysReserved}
 use Rattle.rules.specs.Observation.{Request, concerns, nameOf, requestOf}
 use Rattle.rules.specs.Observation as seen
-use Rattle.rules.specs.Questions.{Lengths}
+use Rattle.rules.specs.Questions.{Lengths, exists, questions}
+use Rattle.rules.specs.Runs.{Call, ownDomain}
 use Rattle.rules.proofs.Noninterference.Blocks.{close-twin, free-twin}
 use Rattle.rules.proofs.Noninterference.Common.{Pair}
 use Rattle.rules.proofs.Noninterference.Domains.{change-twin, create-twin, delete-twin, pulse-twin}
@@ -69,10 +74,29 @@ pub record Proper (a : ℕ) (v : Drive) (lent : Lengths) (c : Command) : Type 0 
 not-that : (n m : ℕ) → not (eqb n m) ≡ true → ¬ (n ≡ m)
 not-that n m e same = true≢false (sym e ∙ (rw (eq-eqb n m same)))
 
+-- Where a question's number is not the first no's, its answer is yes.
+before-no : (n m : ℕ) (b : Bool) (qs : List Question) → ¬ (n ≡ m) → firstNo (ask n b ∷ qs) ≡ m → (b ≡ true) × (firstNo qs ≡ m)
+unfolding firstNo
+before-no n m true qs other e = (refl, e)
+before-no n m false qs other e = absurd (other e)
+
+-- A Create that is refused for coverage is of a missing domain, and such a one is not let in.
+missing-let-in : (a : ℕ) (v : Drive) (k : Call) → ownDomain (k .command) ≡ a → exists (v .table) a ≡ false → notUncovered a v k ≡ true
+    → ¬ (verdict v (k .lent) (k .command) ≡ 14)
+missing-let-in a v k own missing e =
+    not-that (verdict v (k .lent) (k .command)) 14 (rw (eq-eqb (ownDomain (k .command)) a own, missing) at e)
+
 uncovered : (a : ℕ) (v : Drive) (lent : Lengths) (guarantee quota : Planes) (placements limit : ℕ)
     → let c = Create a guarantee quota placements limit in Proper a v lent c → ¬ (verdict v lent c ≡ 14)
+unfolding questions
 uncovered a v lent guarantee quota placements limit o =
-    not-that (verdict v lent (Create a guarantee quota placements limit)) 14 (rw (eq-eqb a a refl) at (o .covered))
+    by-test (exists (v .table) a)
+    (λ there e.
+    let x2 = before-no 2 14 _ _ (λ z. absurd (omega (arith, z))) e in
+    let x4 = before-no 4 14 _ _ (λ z. absurd (omega (arith, z))) (x2 .1) in
+    let x5 = before-no 5 14 (not (exists (v .table) a)) _ (λ z. absurd (omega (arith, z))) (x4 .1) in
+    true≢false (sym (x5 .0) ∙ ap (λ (b : Bool). not b) there))
+    (λ missing. missing-let-in a v (record { command = Create a guarantee quota placements limit; lent = lent }) refl missing (o .covered))
 
 module _ {a : ℕ} {v w : Drive} (p : Pair a v w) (lent : Lengths) (c d : Command) (left : Proper a v lent c) (right : Proper a w lent d) where
   -- It is enough to look at commands of the domain itself.
