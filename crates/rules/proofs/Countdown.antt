@@ -359,15 +359,15 @@ pub stays-open : (k : Call) (v : Drive) (n : ℕ) → n < size (v .table)
 stays-open k v n inside before after = moved k v .inside n inside .kept before after
 
 -- A block that is open after a call and not before has T seconds left.
-pub newly-open : (k : Call) (v : Drive) (n : ℕ) → isOpen (blockAt (v .table) n) ≡ false → isOpen (blockAt (step k v .table) n) ≡ true
+newly-open : (k : Call) (v : Drive) (n : ℕ) → isOpen (blockAt (v .table) n) ≡ false → isOpen (blockAt (step k v .table) n) ≡ true
     → blockAt (step k v .table) n .left ≡ v .table .config .period
 newly-open k v n before after = moved k v .fresh n before after
 
 -- The period never changes.
-pub same-config : (k : Call) (v : Drive) → step k v .table .config ≡ v .table .config
+same-config : (k : Call) (v : Drive) → step k v .table .config ≡ v .table .config
 same-config k v = moved k v .config
 
-pub same-configs : (ks : List Call) (v : Drive) → run ks v .table .config ≡ v .table .config
+same-configs : (ks : List Call) (v : Drive) → run ks v .table .config ≡ v .table .config
 unfolding run
 same-configs [] v = refl
 same-configs (k ∷ ks) v = same-configs ks (step k v) ∙ same-config k v

@@ -78,7 +78,7 @@ sum-swap zero m f = sym (sum-zero m _ (λ i l. refl))
 sum-swap (suc n) m f = omega (arith, sum-swap n m f, sum-add m (λ j. sumTo (λ i. f i j) n) (f n))
 
 -- One number below n is one.
-pub count-one : (n m : ℕ) → m < n → countTo (eqb m) n ≡ 1
+count-one : (n m : ℕ) → m < n → countTo (eqb m) n ≡ 1
 unfolding sumTo
 count-one zero m l = absurd (omega arith)
 count-one (suc n) m l =
@@ -128,7 +128,7 @@ length-numbers p (suc n) =
 
 -- ---- How often a number stands in a list
 
-pub times-append : (n : ℕ) (ms ks : List ℕ) → timesIn n (ms ++ ks) ≡ timesIn n ms + timesIn n ks
+times-append : (n : ℕ) (ms ks : List ℕ) → timesIn n (ms ++ ks) ≡ timesIn n ms + timesIn n ks
 unfolding timesIn
 times-append n [] ks = omega arith
 times-append n (m ∷ ms) ks = omega (arith, times-append n ms ks)

@@ -2,45 +2,31 @@
 use mathlib.Core.Bool.{true}
 use mathlib.Core.List.{List, [], _∷_}
 use mathlib.Core.Path.{_≡_, refl, ap}
-use Rattle.geometry.specs.Address.{fieldsOf, leastFrom, offsetBits, wordOf}
-use Rattle.geometry.specs.Questions.{answered, firstNo}
-use Rattle.geometry.specs.Shape.{adusPerBlock, drivePlanes, eachInRange, planesPerBlock, storeLength, stretchStart, wholeBlocks, withinLimits}
-use Rattle.model.specs.Blocks.{closed, countedDown, writtenOn}
-use Rattle.rules.specs.Blocks.{chosenTo, matches, newBlocks, openedFor, userAddress, writtenByPlacement, writtenInto, writtenOnwards}
-use Rattle.rules.specs.Counting.{allTo, numbersTo, rowTo, sumTo}
-use Rattle.rules.specs.Domains.{changedDomain, coverage, createdDomain, deletedDomain}
-use Rattle.rules.specs.Drive.{Drive, closedCount, heldCount, openBlockTo, openCount, overwritten}
-use Rattle.rules.specs.Effects.{accepted, answerTo, driveAfter, effect, wordsFilled}
+use Rattle.rules.specs.Drive.{Drive}
+use Rattle.rules.specs.Effects.{accepted, answerTo, wordsFilled}
 use Rattle.rules.specs.Example.{NotEmpty, blocksOf, busy, busyHalf, busyNumbers, numbersTold, quiet, quietHalf, quietNumbers, sameInputs, sevens, zeros}
 use Rattle.rules.specs.Noninterference.{Exchange, Replied, calls, fullyReserved, inputs}
 use Rattle.rules.specs.Observation.{Reply, requestOf}
-use Rattle.rules.specs.Questions.{questions, userAddressesFit}
 use Rattle.rules.specs.Runs.{Call, answers, run, step}
-use Rattle.rules.specs.Soundness.{sound}
-use Rattle.rules.specs.Start.{started}
 use Rattle.rules.proofs.Effects.{fill-if}
-
--- To unfold this is to unfold every definition that a run computes with.
-machine : Unit {0}
-unfolding fieldsOf leastFrom offsetBits wordOf answered firstNo adusPerBlock drivePlanes eachInRange planesPerBlock storeLength stretchStart wholeBlocks withinLimits closed countedDown writtenOn chosenTo matches newBlocks openedFor userAddress writtenByPlacement writtenInto writtenOnwards allTo numbersTo rowTo sumTo changedDomain coverage createdDomain deletedDomain closedCount heldCount openBlockTo openCount overwritten driveAfter effect fullyReserved inputs requestOf run answers questions userAddressesFit sound started
-machine = tt
+use Rattle.rules.proofs.Machine.{machine}
 
 -- ---- The two lists
 
 quiet-reserved : fullyReserved 1 quiet zeros ≡ true
-unfolding machine
+unfolding machine fullyReserved
 quiet-reserved = refl
 
 busy-reserved : fullyReserved 1 busy sevens ≡ true
-unfolding machine
+unfolding machine fullyReserved
 busy-reserved = refl
 
 quiet-inputs : inputs 1 quiet zeros ≡ sameInputs
-unfolding machine
+unfolding machine inputs requestOf
 quiet-inputs = refl
 
 busy-inputs : inputs 1 busy sevens ≡ sameInputs
-unfolding machine
+unfolding machine inputs requestOf
 busy-inputs = refl
 
 quiet-halfway : blocksOf (run quietHalf zeros) ≡ (0, 1) ∷ (1, 2) ∷ (2, 3) ∷ []

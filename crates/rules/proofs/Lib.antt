@@ -11,6 +11,7 @@ pub mod LogPages
 pub mod Questions
 pub mod Effects
 pub mod Runs
+pub mod Machine
 pub mod ProvedTable
 pub mod WrongTurns
 pub mod Kept

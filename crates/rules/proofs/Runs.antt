@@ -176,7 +176,7 @@ positive : (d : ℕ) → isDomainId d ≡ true → 0 < d
 positive d e = is-between 1 16 d e .least
 
 -- What a command leaves follows from its own domain's last serial and the period, as they are when it begins.
-abbrev pub FollowsFrom : Command → Table → Table → Type 0
+abbrev FollowsFrom : Command → Table → Table → Type 0
 FollowsFrom c t u = Follows (ownDomain c) (domainAt t (ownDomain c) .last) (t .config .period) t u
 
 begins : (t : Table) (d : ℕ) → OnTheWay d (domainAt t d .last) (t .config .period) t

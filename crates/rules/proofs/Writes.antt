@@ -151,7 +151,7 @@ module _ (c : Config) where
         (entry-behind first (stretchStart c n .0 + offset) users (v .store) (omega (arith, inside n l, r .store, fits)) (omega (arith, behind)))
 
     -- .. and every other block and its entries are as they were.
-    pub written-other : (m : ℕ) → ¬ (m ≡ n) → blockAt (writtenInto d n users v .drive .table) m ≡ blockAt (v .table) m
+    written-other : (m : ℕ) → ¬ (m ≡ n) → blockAt (writtenInto d n users v .drive .table) m ≡ blockAt (v .table) m
     unfolding writtenInto
     written-other m other = getD-set-other (v .table .blocks) n m _ clearBlock other
 
@@ -298,7 +298,7 @@ module _ (c : Config) where
   none-written d p (suc more) users v e = rw (e, none-written d p more (drop (adusPerBlock (v .table .config) .0) users) v e)
 
   -- A write, and then another of the user addresses that follow.
-  abbrev pub andThen : Written → Written → Written
+  abbrev andThen : Written → Written → Written
   andThen first rest = record { drive = rest .drive; addresses = first .addresses ++ rest .addresses }
 
   both-held : (d : ℕ) (these those : List ℕ) (first rest : Written)

@@ -30,7 +30,7 @@ use Rattle.rules.proofs.Writes.{Ready, opened-other, opened-other-entry
 abbrev pub NotOthers : ℕ → Block → Type 0
 NotOthers d b = (e : ℕ) → 1 ≤ e → ¬ (e ≡ d) → heldBy e b ≡ false
 
-pub own-block : (d : ℕ) (b : Block) → b .holder ≡ d → NotOthers d b
+own-block : (d : ℕ) (b : Block) → b .holder ≡ d → NotOthers d b
 own-block d b same e p other = ne-eqb (b .holder) e (λ h. other (sym h ∙ same))
 
 pub held-block : (d : ℕ) (b : Block) → heldBy d b ≡ true → NotOthers d b
@@ -40,16 +40,16 @@ nobodys-block : (d : ℕ) (b : Block) → b .holder ≡ 0 → NotOthers d b
 nobodys-block d b same e p other = ne-eqb (b .holder) e (λ h. absurd (omega (arith, h, same, p)))
 
 -- Block n with another record, and perhaps another store.
-abbrev pub setAt : ℕ → Block → List ℕ → Drive → Drive
+abbrev setAt : ℕ → Block → List ℕ → Drive → Drive
 setAt n b store v = record { table = withBlock n b (v .table); store = store }
 
 module _ (v : Drive) (d n : ℕ) (b : Block) (store : List ℕ) (l : n < size (v .table)) (whole : size (v .table) ≤ length (v .table .blocks))
     (others : (m : ℕ) → m < size (v .table) → ¬ (m ≡ n) → entriesOf (setAt n b store v) m ≡ entriesOf v m)
     (before : NotOthers d (blockAt (v .table) n)) (after : NotOthers d b) where
-  pub set-found : blockAt (setAt n b store v .table) n ≡ b
+  set-found : blockAt (setAt n b store v .table) n ≡ b
   set-found = getD-set-same (v .table .blocks) n b clearBlock (omega (arith, l, whole))
 
-  pub set-changed : Changed d n v (setAt n b store v)
+  set-changed : Changed d n v (setAt n b store v)
   set-changed = record {
     inside = l;
     config = refl;
@@ -86,16 +86,16 @@ module _ (v : Drive) (d n : ℕ) (b : Block) (store : List ℕ) (p : 1 ≤ d) (l
   still-held : heldBy d b ≡ true
   still-held = rw (mild .holder) held
 
-  pub mild-changed : Changed d n v w
+  mild-changed : Changed d n v w
   mild-changed = set-changed v d n b store l whole others (held-block d (blockAt (v .table) n) held) (held-block d b still-held)
 
   found : blockAt (w .table) n ≡ b
   found = getD-set-same (v .table .blocks) n b clearBlock (omega (arith, l, whole))
 
-  pub mild-held : heldBy d (blockAt (w .table) n) ≡ true
+  mild-held : heldBy d (blockAt (w .table) n) ≡ true
   mild-held = rw found still-held
 
-  pub mild-facts : Facts v → Facts w
+  mild-facts : Facts v → Facts w
   mild-facts f =
       let o = held-owned v d n f p l held in
       let h = eqb-true (blockAt (v .table) n .holder) d held in
@@ -159,7 +159,7 @@ module _ (v : Drive) (d n : ℕ) (p : 1 ≤ d) (l : n < size (v .table)) (whole 
   closed-changed =
       mild-changed v d n (closed (blockAt (v .table) n)) (v .store) p l whole held (closed-mild (v .table) (blockAt (v .table) n)) (λ m k other. refl)
 
-  pub closed-facts : Facts v → Facts closing
+  closed-facts : Facts v → Facts closing
   unfolding entriesOf
   closed-facts f =
       mild-facts v d n (closed (blockAt (v .table) n)) (v .store) p l whole held (closed-mild (v .table) (blockAt (v .table) n)) (λ m k other. refl) f

@@ -20,20 +20,20 @@ use Rattle.rules.proofs.Store.{entry-before, entry-behind, entry-new, l
 use Rattle.rules.proofs.Writes.{Ready, entry, inside, opened-entry, opened-ready, written-entry, written-own, written-ready}
 
 -- Lists of one length with the same entries are the same.
-pub same-entries : (xs ys : List ℕ) → length xs ≡ length ys → ((i : ℕ) → i < length xs → getD xs i 0 ≡ getD ys i 0) → xs ≡ ys
+same-entries : (xs ys : List ℕ) → length xs ≡ length ys → ((i : ℕ) → i < length xs → getD xs i 0 ≡ getD ys i 0) → xs ≡ ys
 same-entries [] [] e h = refl
 same-entries [] (y ∷ ys) e h = absurd (omega (arith, e))
 same-entries (x ∷ xs) [] e h = absurd (omega (arith, e))
 same-entries (x ∷ xs) (y ∷ ys) e h =
     ap₂ _∷_ (h 0 (omega arith)) (same-entries xs ys (omega (arith, e)) (λ i l. h (suc i) (omega (arith, l))))
 
-pub get-take : (k i : ℕ) (l : List ℕ) → i < k → getD (take k l) i 0 ≡ getD l i 0
+get-take : (k i : ℕ) (l : List ℕ) → i < k → getD (take k l) i 0 ≡ getD l i 0
 get-take zero i l p = absurd (omega (arith, p))
 get-take (suc k) i [] p = refl
 get-take (suc k) zero (x ∷ l) p = refl
 get-take (suc k) (suc i) (x ∷ l) p = get-take k i l (omega (arith, p))
 
-pub get-drop : (k i : ℕ) (l : List ℕ) → getD (drop k l) i 0 ≡ getD l (k + i) 0
+get-drop : (k i : ℕ) (l : List ℕ) → getD (drop k l) i 0 ≡ getD l (k + i) 0
 get-drop zero i l = rw zero-add
 get-drop (suc k) i [] = refl
 get-drop (suc k) i (x ∷ l) = rw (suc-add k i) (get-drop k i l)

@@ -47,7 +47,7 @@ pub record Opens (d n : ℕ) (v : Drive) : Type 0 where
 pub opens-changed : {d n : ℕ} {v : Drive} → Opens d n v → Changed d n v (openedFor d way.Erase n v)
 opens-changed {d} {n} {v} o = opened-changed v d n way.Erase (o .low) (o .high) (o .ready) (o .inside) (o .domains) (o .nobody)
 
-pub opens-sequel : {d n : ℕ} {v : Drive} → Opens d n v → OwnSequel d v (openedFor d way.Erase n v)
+opens-sequel : {d n : ℕ} {v : Drive} → Opens d n v → OwnSequel d v (openedFor d way.Erase n v)
 opens-sequel {d} {n} {v} o =
     opened-sequel v d n way.Erase (o .low) (o .high) (o .ready) (o .inside) (o .domains) (o .nobody)
     (opened-facts v d n way.Erase (o .low) (o .high) (o .ready) (o .inside) (o .domains) (o .nobody)
@@ -130,7 +130,7 @@ module _ (v : Drive) (lent : Lengths) (fit : Fit v lent) (d n : ℕ) (e : verdic
       ltb-true n (size t) (the-first (isBlock (t .config) n) (eqb n anyBlock) (answered-yes v lent (Erase d n) 4 e) other)
 
   -- Erase of the number of a Free block opens that.
-  pub free-opens : eqb n anyBlock ≡ false → isHeld t d n ≡ false → Opens d n v
+  free-opens : eqb n anyBlock ≡ false → isHeld t d n ≡ false → Opens d n v
   unfolding questions
   free-opens other not-held =
       let b = blockAt t n in
@@ -144,14 +144,14 @@ module _ (v : Drive) (lent : Lengths) (fit : Fit v lent) (d n : ℕ) (e : verdic
   freeing = record { table = freedAt n t; store = v .store }
 
   module _ (other : eqb n anyBlock ≡ false) (held : isHeld t d n ≡ true) where
-    pub again-inside : n < size t
+    again-inside : n < size t
     again-inside = named-inside other
 
     again-low : 1 ≤ d
     unfolding questions
     again-low = is-between 1 16 d (answered-yes v lent (Erase d n) 2 e) .least
 
-    pub again-changed : Changed d n v freeing
+    again-changed : Changed d n v freeing
     again-changed = freed-changed v d n again-low again-inside (fit-blocks fit) held
 
     fewer : (q : Holding → ℕ) → view q d freeing + q (holdingAt v n) ≡ view q d v

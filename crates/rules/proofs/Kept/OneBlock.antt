@@ -127,7 +127,7 @@ module _ {d n : ℕ} {v w : Drive} (p : 1 ≤ d) (c : Changed d n v w) (f : Fact
       }))
       (λ other. rw (c .domains e q other) (record { exists = x; placements = refl; last = omega arith }))
 
-  pub facts-changed : Facts w
+  facts-changed : Facts w
   facts-changed = record {
     limits = rw (c .config) (f .limits);
     domains = λ e q l. by-eq e d
@@ -198,13 +198,13 @@ module _ {d n : ℕ} {v w : Drive} (p : 1 ≤ d) (c : Changed d n v w) (f : Fact
 -- ---- Opening a Free block
 
 -- The coverage sum with other numbers for one domain: its own numbers change nothing, and only the others' count.
-pub instead-self : (d : ℕ) (f g : ℕ → ℕ) → coverage (instead d (f d) f) (instead d (g d) g) ≡ coverage f g
+instead-self : (d : ℕ) (f g : ℕ → ℕ) → coverage (instead d (f d) f) (instead d (g d) g) ≡ coverage f g
 instead-self d f g =
     coverage-same _ _ f g (λ e p l. by-eq e d
     (λ same. rw (eq-eqb e d same, same) (refl, refl))
     (λ other. rw (ne-eqb e d other) (refl, refl)))
 
-pub instead-others : (d r h : ℕ) (f g f' g' : ℕ → ℕ) → ((e : ℕ) → 1 ≤ e → ¬ (e ≡ d) → (f e ≡ f' e) × (g e ≡ g' e))
+instead-others : (d r h : ℕ) (f g f' g' : ℕ → ℕ) → ((e : ℕ) → 1 ≤ e → ¬ (e ≡ d) → (f e ≡ f' e) × (g e ≡ g' e))
     → coverage (instead d r f) (instead d h g) ≡ coverage (instead d r f') (instead d h g')
 instead-others d r h f g f' g' same =
     coverage-same _ _ _ _ (λ e p l. by-eq e d
@@ -246,7 +246,7 @@ view-none q d v h =
     (λ n l. by-test (heldBy d (blockAt (v .table) n)) (λ e. rw e (h n l e)) (λ e. rw e))
 
 -- The next serial is new.
-pub serial-new : (v : Drive) (d s : ℕ) → Facts v → 1 ≤ d → domainAt (v .table) d .last < s → view (ifSerial s) d v ≡ 0
+serial-new : (v : Drive) (d s : ℕ) → Facts v → 1 ≤ d → domainAt (v .table) d .last < s → view (ifSerial s) d v ≡ 0
 serial-new v d s f p new =
     view-none (ifSerial s) d v (λ n l e.
     let b = blockAt (v .table) n in

@@ -184,10 +184,10 @@ module _ {d p k : ℕ} {users : List ℕ} {v : Drive} (o : Onward d p (suc k) us
         (o .may-open (omega arith))
         (λ q e. subst (λ (x : ℕ). view (ifPlaced x) d v ≡ 0) (eqb-true p q e) (o .none-open (omega arith)))
 
-    pub open-ready : Ready c opening
+    open-ready : Ready c opening
     open-ready = opened-ready c d (Placement p) n v (o .ready) inside
 
-    pub open-record : blockAt (opening .table) n ≡ opened d (Placement p) (nextSerial (v .table) d) (c .period) (blockAt (v .table) n)
+    open-record : blockAt (opening .table) n ≡ opened d (Placement p) (nextSerial (v .table) d) (c .period) (blockAt (v .table) n)
     open-record = opened-record c d (Placement p) n v (o .ready) inside
 
     pub open-own : Ready (opening .table .config) opening
@@ -208,13 +208,13 @@ module _ {d p k : ℕ} {users : List ℕ} {v : Drive} (o : Onward d p (suc k) us
     pub fill-changed : Changed d n opening filling
     fill-changed = written-changed opening d n these (o .low) open-own inside-opening open-held open-fits
 
-    pub fill-facts : Facts filling
+    fill-facts : Facts filling
     fill-facts = written-facts opening d n these (o .low) open-own inside-opening open-held open-fits open-facts
 
-    pub fill-held : heldBy d (blockAt (filling .table) n) ≡ true
+    fill-held : heldBy d (blockAt (filling .table) n) ≡ true
     fill-held = written-held opening d n these (o .low) open-own inside-opening open-held open-fits
 
-    pub fill-ready : Ready (opening .table .config) filling
+    fill-ready : Ready (opening .table .config) filling
     fill-ready = written-ready (opening .table .config) d n these opening open-own inside-opening open-fits
 
     pub fill-config : filling .table .config ≡ c
@@ -249,7 +249,7 @@ module _ {d p k : ℕ} {users : List ℕ} {v : Drive} (o : Onward d p (suc k) us
         (full-closed (length these) (adusPerBlock (opening .table .config) .0) (blockAt (opening .table) n) p
         (rw (open-ready .shape) (omega (arith, enough))))
 
-    pub next-sequel : OwnSequel d v filling
+    next-sequel : OwnSequel d v filling
     next-sequel =
         sequel-then
         (opened-sequel v d n (Placement p) (o .low) (o .high) (o .ready) inside (o .domains) nobody open-facts)

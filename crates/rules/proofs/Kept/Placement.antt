@@ -128,10 +128,10 @@ module _ {d p : ℕ} {users : List ℕ} {v : Drive} (a : Asked d p users v) wher
     pub fits : blockAt (v .table) n .written .0 + length these ≤ most
     fits = rw length-take (omega (arith, has-room))
 
-    pub first-changed : Changed d n v first
+    first-changed : Changed d n v first
     first-changed = written-changed v d n these (a .low) (a .ready) (is-open .0) (is-open .1) fits
 
-    pub first-sequel : OwnSequel d v first
+    first-sequel : OwnSequel d v first
     first-sequel = written-sequel v d n these (a .low) (a .ready) (is-open .0) (is-open .1) fits (a .facts)
 
     first-held : heldBy d (blockAt (first .table) n) ≡ true

@@ -40,7 +40,7 @@ use Rattle.rules.proofs.Kept.Views.{Alike, held-view, ifOpen, ifPlaced,
 abbrev pub bare : Holding → Block
 bare h = record { state = h .state; holder = 0; written = adus (h .written); left = h .left; erases = 0; serial = h .serial }
 
-abbrev pub holdingOf : Block → Holding → Holding
+abbrev holdingOf : Block → Holding → Holding
 holdingOf b h = record { serial = b .serial; state = b .state; written = b .written .0; left = b .left; entries = h .entries }
 
 -- What a pulse makes of a holding.

@@ -129,7 +129,7 @@ module _ {a : ℕ} {v w : Drive} (p : Pair a v w) (lent : Lengths) where
       own-there : heldBy a (blockAt (w .table) m) ≡ true
       own-there = own-other p n m same inside own
 
-      pub old-weights : (q : Holding → ℕ) → weight q a v n ≡ weight q a w m
+      old-weights : (q : Holding → ℕ) → weight q a v n ≡ weight q a w m
       old-weights q = rw (own, own-there) (ap q (holding-same p n m same inside own))
 
       closed-same : holdingAt (effect (Close a n) v .drive) n ≡ holdingAt (effect (Close a m) w .drive) m

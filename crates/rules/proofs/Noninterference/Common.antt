@@ -152,10 +152,10 @@ module _ {a : ℕ} {v w : Drive} (p : Pair a v w) where
         pub own-other : heldBy a (blockAt (w .table) m) ≡ true
         own-other = sym own-same ∙ own
 
-        pub holds-one : Holds a v n
+        holds-one : Holds a v n
         holds-one = (ltb-true n (size (v .table)) inside, own)
 
-        pub holds-other : Holds a w m
+        holds-other : Holds a w m
         holds-other = (ltb-true m (size (w .table)) inside-other, own-other)
 
         pub holding-same : holdingAt v n ≡ holdingAt w m

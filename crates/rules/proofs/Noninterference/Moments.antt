@@ -28,10 +28,10 @@ use Rattle.rules.proofs.Kept.Views.{Alike}
 -- ---- The start
 
 -- The drive with which a run of a configuration within limits begins.
-abbrev pub empty : Config → List ℕ → Drive
+abbrev empty : Config → List ℕ → Drive
 empty c store = record { table = emptyTable c; store = store }
 
-pub begun-empty : (c : Config) (store : List ℕ) → withinLimits c ≡ true → begun c store ≡ empty c store
+begun-empty : (c : Config) (store : List ℕ) → withinLimits c ≡ true → begun c store ≡ empty c store
 begun-empty c store e = rw (start-accepted c e)
 
 empty-course : (c : Config) (store : List ℕ) → withinLimits c ≡ true → length store ≡ storeLength c .0 → Course (empty c store)
@@ -41,7 +41,7 @@ empty-course c store e l = record {
   store = l;
 }
 
-pub begun-course : (c : Config) (store : List ℕ) → withinLimits c ≡ true → length store ≡ storeLength c .0 → Course (begun c store)
+begun-course : (c : Config) (store : List ℕ) → withinLimits c ≡ true → length store ≡ storeLength c .0 → Course (begun c store)
 begun-course c store e l = subst Course (sym (begun-empty c store e)) (empty-course c store e l)
 
 -- No domain exists or holds a block, so that none can tell two stores apart.

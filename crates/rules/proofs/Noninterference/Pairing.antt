@@ -156,7 +156,7 @@ partner {a} {v} {w} s n h =
         by-test (sameHolding (holdingAt v n) (holdingAt w m)) (λ e p. e) (λ e. rw e (λ p. absurd (omega (arith, p))))
 
 -- Of a domain's blocks no two have one serial.
-pub one-serial : {a : ℕ} {v : Drive} → 1 ≤ a → Facts v → (n m : ℕ) → Holds a v n → Holds a v m → serialAt v n ≡ serialAt v m → n ≡ m
+one-serial : {a : ℕ} {v : Drive} → 1 ≤ a → Facts v → (n m : ℕ) → Holds a v n → Holds a v m → serialAt v n ≡ serialAt v m → n ≡ m
 unfolding view
 one-serial {a} {v} p f n m h k same =
     by-eq n m (λ e. e) (λ other.

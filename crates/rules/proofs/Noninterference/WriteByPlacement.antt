@@ -72,7 +72,7 @@ module _ {a p k : ℕ} {users : List ℕ} {v w : Drive} (s : Alike a v w) (x : O
       ∙ ap (λ (r : Domain). withLast (r .last + 1) r) (s .domain)
       ∙ sym (opened-domain w a m (Placement p) (y .low) (y .high) (y .ready) (inside y m chosen') (y .domains) (nobody y m chosen')))
 
-  pub next-left : Into a n these opening
+  next-left : Into a n these opening
   next-left = record {
     low = x .low;
     ready = open-own x n chosen;
@@ -81,7 +81,7 @@ module _ {a p k : ℕ} {users : List ℕ} {v w : Drive} (s : Alike a v w) (x : O
     fits = open-fits x n chosen;
   }
 
-  pub next-right : Into a m these opening'
+  next-right : Into a m these opening'
   next-right =
       subst (λ (e : Config). Into a m (take (adusPerBlock e .0) users) opening') (sym (s .config))
       (record {
@@ -98,21 +98,21 @@ module _ {a p k : ℕ} {users : List ℕ} {v w : Drive} (s : Alike a v w) (x : O
   abbrev filling' : Drive
   filling' = writtenInto a m these opening' .drive
 
-  pub filled-alike : Alike a filling filling'
+  filled-alike : Alike a filling filling'
   filled-alike = into-alike opened-alike next-left next-right opened-same
 
-  pub filled-same : holdingAt filling n ≡ holdingAt filling' m
+  filled-same : holdingAt filling n ≡ holdingAt filling' m
   filled-same = into-same opened-alike next-left next-right opened-same
 
-  pub onward-left : Onward a p k (drop (adusPerBlock c .0) users) filling
+  onward-left : Onward a p k (drop (adusPerBlock c .0) users) filling
   onward-left = next-onward x n chosen
 
-  pub onward-right : Onward a p k (drop (adusPerBlock c .0) users) filling'
+  onward-right : Onward a p k (drop (adusPerBlock c .0) users) filling'
   onward-right =
       subst (λ (e : Config). Onward a p k (drop (adusPerBlock e .0) users) (writtenInto a m (take (adusPerBlock e .0) users) opening' .drive))
       (sym (s .config)) (next-onward y m chosen')
 
-  pub filled-read : (u z : Drive) → u .table .config ≡ opening .table .config → z .table .config ≡ opening' .table .config
+  filled-read : (u z : Drive) → u .table .config ≡ opening .table .config → z .table .config ≡ opening' .table .config
       → serialAt u n ≡ serialAt z m
       → map (readAddress u) (writtenInto a n these opening .addresses) ≡ map (readAddress z) (writtenInto a m these opening' .addresses)
   filled-read u z =
