@@ -1,8 +1,8 @@
 -- The chosen block is Free, has the least P/E count, and is the lowest of those; and the choice runs over every Free one.
 use Prim.Native.Nat.{ℕ, zero, suc, _≤_, _<_}
-use mathlib.Core.Bool.{Bool, true, false, true≢false}
+use mathlib.Core.Bool.{true, false}
 use mathlib.Core.Option.{Option, none, some}
-use mathlib.Core.Path.{_≡_, sym, _∙_}
+use mathlib.Core.Path.{_≡_}
 use native.Mathlib.Omega.{arith}
 use lib.Dec.{ltb}
 use borrow.Author.Tests.{ltb-false, ltb-true}
@@ -11,7 +11,7 @@ use Rattle.model.specs.declared.table.Table.{Table}
 use Rattle.rules.specs.Blocks.{better, chosenTo}
 use Rattle.rules.specs.Claims.{Chosen}
 use Rattle.rules.specs.Drive.{blockAt, isFree}
-use Rattle.rules.proofs.Counting.{by-eq}
+use Rattle.rules.proofs.Counting.{by-eq, clash}
 
 -- What is chosen among so many blocks; nothing is only where none is Free.
 abbrev pub Choice : Table → ℕ → Option ℕ → Type 0
@@ -21,9 +21,6 @@ Choice t size (some n) = Chosen t size n
 -- What holds below n and at n holds below n + 1.
 below-next : (P : ℕ → Type 0) (n : ℕ) → ((i : ℕ) → i < n → P i) → P n → (i : ℕ) → i < suc n → P i
 below-next P n below at i l = by-eq i n (λ e. rw e at) (λ e. below i (omega arith))
-
-clash : {P : Type 0} (b : Bool) → b ≡ true → b ≡ false → P
-clash b e f = absurd (true≢false (sym e ∙ f))
 
 -- Block n is not Free, or it is and has not fewer erases: the choice stays.
 stays : (t : Table) (n m : ℕ) → Chosen t n m → (isFree (blockAt t n) ≡ true → blockAt t m .erases ≤ blockAt t n .erases) → Chosen t (suc n) m

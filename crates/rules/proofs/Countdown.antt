@@ -1,6 +1,6 @@
 -- The countdown: an open block has T less the seconds of the accepted pulses since it was opened.
 use Prim.Native.Nat.{ℕ, zero, suc, _+_, _<_, min}
-use mathlib.Core.Bool.{Bool, true, false, true≢false, cond}
+use mathlib.Core.Bool.{true, false, true≢false, cond}
 use mathlib.Core.List.{List, [], _∷_}
 use mathlib.Core.Option.{Option, none, some}
 use mathlib.Core.Path.{_≡_, refl, sym, ap, _∙_, subst}
@@ -31,15 +31,12 @@ use Rattle.rules.specs.Countdown.{closesByPulse, elapsed, elapsedFrom, p
 use Rattle.rules.specs.Questions.{Lengths, isErasedAgain, isHeld, mayErase, questions}
 use Rattle.rules.specs.Runs.{Call, begun, reference, run, step}
 use Rattle.rules.specs.Start.{Started}
+use Rattle.rules.proofs.Counting.{clash}
 use Rattle.rules.proofs.Blocks.{Choice, choice}
 use Rattle.rules.proofs.Drive.{block-changed, block-changed-below, block-set}
 use Rattle.rules.proofs.Questions.{answered-yes}
 use Rattle.rules.proofs.Runs.{pulse-open}
 use Rattle.rules.proofs.Start.{clear-block, start-accepted}
-
--- What is both true and false proves anything.
-clash : {P : Type 0} (b : Bool) → b ≡ true → b ≡ false → P
-clash b e f = absurd (true≢false (sym e ∙ f))
 
 -- ---- States
 

@@ -1,6 +1,6 @@
 -- The laws of sums, tests and rows over the numbers below n.
 use Prim.Native.Nat.{ℕ, zero, suc, _+_, _≤_, _<_}
-use mathlib.Core.Bool.{Bool, true, false, _&&_, cond}
+use mathlib.Core.Bool.{Bool, true, false, true≢false, _&&_, _||_, cond}
 use mathlib.Core.List.{List, [], _∷_, _++_}
 use mathlib.Core.Path.{_≡_, refl, sym, ap₂, _∙_}
 use native.Mathlib.Omega.{arith}
@@ -14,6 +14,14 @@ use Rattle.rules.specs.LogPages.{timesIn}
 -- Cases of an equation of numbers.
 pub by-eq : {P : Type 0} (k n : ℕ) → (k ≡ n → P) → (¬ (k ≡ n) → P) → P
 by-eq k n same other = by-test (eqb k n) (λ e. same (eqb-true k n e)) (λ e. other (eqb-false k n e))
+
+-- A test that is both true and false; one of two that is true where the other is not.
+pub clash : {P : Type 0} (b : Bool) → b ≡ true → b ≡ false → P
+clash b e f = absurd (true≢false (sym e ∙ f))
+
+pub the-first : (a b : Bool) → a || b ≡ true → b ≡ false → a ≡ true
+the-first true b e f = refl
+the-first false b e f = absurd (true≢false (sym e ∙ f))
 
 -- ---- Sums
 

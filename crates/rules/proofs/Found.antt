@@ -32,7 +32,7 @@ use Rattle.rules.specs.Effects.{answerTo, driveAfter, effect, erasing, v
 use Rattle.rules.specs.Questions.{Lengths, isCount, questions, storeFits}
 use Rattle.rules.specs.Soundness.{countsKept, freeIsClear}
 use Rattle.rules.proofs.Blocks.{Choice, choice}
-use Rattle.rules.proofs.Counting.{all-each, length-row}
+use Rattle.rules.proofs.Counting.{all-each, length-row, the-first}
 use Rattle.rules.proofs.Effects.{written-length}
 use Rattle.rules.proofs.Questions.{answered-yes}
 use Rattle.rules.proofs.Soundness.{Clauses, apart}
@@ -106,10 +106,6 @@ erased-taken : (s : State) → isErasedState s ≡ true → isFreeState s ≡ fa
 erased-taken Free e = absurd (true≢false (sym e))
 erased-taken (Open way) e = refl
 erased-taken (Closed way) e = refl
-
-the-first : (a b : Bool) → a || b ≡ true → b ≡ false → a ≡ true
-the-first true b e f = refl
-the-first false b e f = absurd (true≢false (sym e ∙ f))
 
 -- What an accepted Erase answers is the block that it opens.
 erasing-values : (d m : ℕ) (found : Option ℕ) (v : Drive) → erasing d found v .values ≡ m ∷ [] → found ≡ some m

@@ -10,6 +10,7 @@ pub mod Mild
 pub mod Changes
 pub mod Onwards
 pub mod Placement
+pub mod Fit
 pub mod Erasing
 pub mod Asked
 pub mod Sweeps

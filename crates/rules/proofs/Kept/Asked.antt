@@ -1,7 +1,5 @@
 -- What an accepted Close, Free, Write by block and Write by placement was asked, and that each leaves a sound table sound.
-use Prim.Native.Nat.{ℕ, _+_, _≤_, _<_}
-use mathlib.Core.Bool.{true}
-use mathlib.Core.List.{List}
+use Prim.Native.Nat.{ℕ, _+_}
 use mathlib.Core.Path.{_≡_}
 use lib.Dec.{ltb}
 use lib.ListN.{length}
@@ -13,63 +11,48 @@ use Rattle.geometry.specs.declared.shape.Adus.{Adus}
 use Rattle.model.specs.declared.command.Command.the-variants.{Close, Free, WriteByBlock, WriteByPlacement}
 use Rattle.model.specs.declared.table.Table.{Table}
 use Rattle.rules.specs.Blocks.{newBlocks, userAddress, userAddresses}
-use Rattle.rules.specs.Drive.{Drive, blockAt, domainAt, heldBy, heldCount, size}
+use Rattle.rules.specs.Drive.{Drive, blockAt, domainAt, heldCount, size}
 use Rattle.rules.specs.Effects.{effect, verdict}
 use Rattle.rules.specs.Questions.{Lengths, isCount, questions}
-use Rattle.rules.proofs.Kept.Changes.{closed-sequel, freed-sequel, written-sequel}
+use Rattle.rules.proofs.Kept.Changes.{closed-sequel, freed-sequel, HeldBlock, Writable, written-sequel}
 use Rattle.rules.proofs.Counting.{length-row}
-use Rattle.rules.proofs.Kept.Erasing.{Fit, fit-blocks, fit-ready}
+use Rattle.rules.proofs.Kept.Fit.{Fit, fit-blocks, fit-ready}
 use Rattle.rules.proofs.Kept.OneBlock.{OwnSequel, coverageWith}
 use Rattle.rules.proofs.Questions.{answered-yes}
 use Rattle.rules.proofs.Kept.Placement.{Asked, placement-sequel}
-use Rattle.rules.proofs.Writes.{Ready}
 
 module _ (v : Drive) (lent : Lengths) (fit : Fit v lent) where
   abbrev t : Table
   t = v .table
 
-  -- A block that a domain holds.
-  pub record HeldBlock (d n : ℕ) : Type 0 where
-    pub low : 1 ≤ d
-    pub inside : n < size t
-    pub held : heldBy d (blockAt t n) ≡ true
-
-  pub close-asked : (d n : ℕ) → verdict v lent (Close d n) ≡ 0 → HeldBlock d n
+  pub close-asked : (d n : ℕ) → verdict v lent (Close d n) ≡ 0 → HeldBlock d n v
   unfolding questions
   close-asked d n e = record {
     low = is-between 1 16 d (answered-yes v lent (Close d n) 1 e) .least;
     inside = ltb-true n (size t) (answered-yes v lent (Close d n) 3 e);
+    whole = fit-blocks fit;
     held = answered-yes v lent (Close d n) 4 e;
   }
 
-  pub free-asked : (d n : ℕ) → verdict v lent (Free d n) ≡ 0 → HeldBlock d n
+  pub free-asked : (d n : ℕ) → verdict v lent (Free d n) ≡ 0 → HeldBlock d n v
   unfolding questions
   free-asked d n e = record {
     low = is-between 1 16 d (answered-yes v lent (Free d n) 1 e) .least;
     inside = ltb-true n (size t) (answered-yes v lent (Free d n) 3 e);
+    whole = fit-blocks fit;
     held = answered-yes v lent (Free d n) 4 e;
   }
 
   pub close-sequel : (d n : ℕ) → verdict v lent (Close d n) ≡ 0 → OwnSequel d v (effect (Close d n) v .drive)
   unfolding effect
-  close-sequel d n e =
-      let a = close-asked d n e in closed-sequel v d n (a .low) (a .inside) (fit-blocks fit) (a .held) (fit .facts)
+  close-sequel d n e = closed-sequel (close-asked d n e) (fit .facts)
 
   pub free-sequel : (d n : ℕ) → verdict v lent (Free d n) ≡ 0 → OwnSequel d v (effect (Free d n) v .drive)
   unfolding effect
-  free-sequel d n e =
-      let a = free-asked d n e in freed-sequel v d n (a .low) (a .inside) (fit-blocks fit) (a .held) (fit .facts)
-
-  -- A block that a domain holds, with room for so many ADUs.
-  pub record Writable (d n : ℕ) (users : List ℕ) : Type 0 where
-    pub low : 1 ≤ d
-    pub ready : Ready (t .config) v
-    pub inside : n < size t
-    pub held : heldBy d (blockAt t n) ≡ true
-    pub fits : blockAt t n .written .0 + length users ≤ adusPerBlock (t .config) .0
+  free-sequel d n e = freed-sequel (free-asked d n e) (fit .facts)
 
   pub block-asked : (d n start : ℕ) (count : Adus) → verdict v lent (WriteByBlock d n start count) ≡ 0
-      → Writable d n (userAddresses start (count .0))
+      → Writable d n (userAddresses start (count .0)) v
   unfolding questions
   block-asked d n start count e =
       let c = WriteByBlock d n start count in
@@ -86,9 +69,7 @@ module _ (v : Drive) (lent : Lengths) (fit : Fit v lent) where
   pub block-sequel : (d n start : ℕ) (count : Adus) → verdict v lent (WriteByBlock d n start count) ≡ 0
       → OwnSequel d v (effect (WriteByBlock d n start count) v .drive)
   unfolding effect
-  block-sequel d n start count e =
-      let a = block-asked d n start count e in
-      written-sequel v d n (userAddresses start (count .0)) (a .low) (a .ready) (a .inside) (a .held) (a .fits) (fit .facts)
+  block-sequel d n start count e = written-sequel (block-asked d n start count e) (fit .facts)
 
   pub placement-asked : (d p start : ℕ) (count : Adus) → verdict v lent (WriteByPlacement d p start count) ≡ 0
       → Asked d p (userAddresses start (count .0)) v

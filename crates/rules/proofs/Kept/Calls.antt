@@ -26,7 +26,8 @@ use Rattle.rules.proofs.Questions.{answered-yes}
 use Rattle.rules.proofs.Kept.Placement.{placement-all}
 use Rattle.rules.proofs.Kept.Tested.{facts-of, facts-sound}
 use Rattle.rules.proofs.Kept.Asked.{block-sequel, close-sequel, free-sequel, placement-asked, written-placement-sequel}
-use Rattle.rules.proofs.Kept.Erasing.{Fit, any-opens, erase-sequel}
+use Rattle.rules.proofs.Kept.Erasing.{any-opens, erase-sequel}
+use Rattle.rules.proofs.Kept.Fit.{Fit}
 use Rattle.rules.proofs.Kept.Facts.{Facts}
 use Rattle.rules.proofs.Kept.OneBlock.{OwnSequel, Sequel, same-sequel}
 use Rattle.rules.proofs.Kept.Sweeps.{changed, created, deleted, pulsed-sequel}

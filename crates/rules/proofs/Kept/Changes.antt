@@ -9,7 +9,7 @@ use lib.Seq.{getD-set-other, getD-set-same}
 use borrow.Author.Tests.{eq-eqb, eqb-true, ne-eqb}
 use Rattle.geometry.specs.Shape.{adus, adusPerBlock}
 use Rattle.geometry.specs.declared.shape.Config.{Config}
-use Rattle.model.specs.Blocks.{closed, freed, writtenOn}
+use Rattle.model.specs.Blocks.{closed, freed, opened, writtenOn}
 use Rattle.model.specs.declared.block.Block.{Block}
 use Rattle.model.specs.declared.block.State.the-variants.{Open}
 use Rattle.model.specs.declared.block.Way.{Way}
@@ -24,7 +24,31 @@ use Rattle.rules.proofs.Kept.OneBlock.{OwnSequel, block-facts-on, cover
 use Rattle.rules.proofs.Kept.Mild.{Mild, closed-mild, written-mild}
 use Rattle.rules.proofs.Kept.Views.{Changed, changed-apart, ifPlaced, view, view-changed}
 use Rattle.rules.proofs.Kept.Entries.{entries-stay}
-use Rattle.rules.proofs.Writes.{Ready, opened-other, opened-other-entry, opened-ready, opened-record, written-other-entry, written-ready, written-record}
+use Rattle.rules.proofs.Writes.{Ready, opened-other, opened-other-entry, opened-ready as open-ready, opened-record as open-record, written-other-entry, written-ready as into-ready, written-record as into-record}
+
+-- A block that a domain holds, ..
+pub record HeldBlock (d n : ℕ) (v : Drive) : Type 0 where
+  pub low : 1 ≤ d
+  pub inside : n < size (v .table)
+  pub whole : size (v .table) ≤ length (v .table .blocks)
+  pub held : heldBy d (blockAt (v .table) n) ≡ true
+
+-- .. one that has room for these user addresses, ..
+pub record Writable (d n : ℕ) (users : List ℕ) (v : Drive) : Type 0 where
+  pub low : 1 ≤ d
+  pub ready : Ready (v .table .config) v
+  pub inside : n < size (v .table)
+  pub held : heldBy d (blockAt (v .table) n) ≡ true
+  pub fits : blockAt (v .table) n .written .0 + length users ≤ adusPerBlock (v .table .config) .0
+
+-- .. and one that nobody holds, to be opened for a domain.
+pub record Openable (d n : ℕ) (v : Drive) : Type 0 where
+  pub low : 1 ≤ d
+  pub high : d ≤ 16
+  pub ready : Ready (v .table .config) v
+  pub domains : length (v .table .domains) ≡ 16
+  pub inside : n < size (v .table)
+  pub nobody : blockAt (v .table) n .holder ≡ 0
 
 -- No other domain than d holds this block.
 abbrev pub NotOthers : ℕ → Block → Type 0
@@ -73,68 +97,69 @@ changed-sequel c f domains blocks store = record {
   others = λ e p other. changed-apart c e p other;
 }
 
+-- The holder of a block exists.
+module _ {d n : ℕ} {v : Drive} (h : HeldBlock d n v) (f : Facts v) where
+  holder-is : blockAt (v .table) n .holder ≡ d
+  holder-is = eqb-true (blockAt (v .table) n .holder) d (h .held)
+
+  holder-exists : domainAt (v .table) d .exists ≡ true
+  holder-exists =
+      subst (λ (e : ℕ). domainAt (v .table) e .exists ≡ true) holder-is (held-owned v d n f (h .low) (h .inside) (h .held) .exists)
+
+  holder-few : d ≤ 16
+  holder-few = omega (arith, held-owned v d n f (h .low) (h .inside) (h .held) .high, holder-is)
+
 -- ---- A mild change of a block that the domain holds
 
-module _ (v : Drive) (d n : ℕ) (b : Block) (store : List ℕ) (p : 1 ≤ d) (l : n < size (v .table))
-    (whole : size (v .table) ≤ length (v .table .blocks))
-    (held : heldBy d (blockAt (v .table) n) ≡ true)
+module _ {d n : ℕ} {v : Drive} (h : HeldBlock d n v) (b : Block) (store : List ℕ)
     (mild : Mild (v .table) (blockAt (v .table) n) b)
     (others : (m : ℕ) → m < size (v .table) → ¬ (m ≡ n) → entriesOf (setAt n b store v) m ≡ entriesOf v m) where
   abbrev w : Drive
   w = setAt n b store v
 
   still-held : heldBy d b ≡ true
-  still-held = rw (mild .holder) held
+  still-held = rw (mild .holder) (h .held)
 
   mild-changed : Changed d n v w
-  mild-changed = set-changed v d n b store l whole others (held-block d (blockAt (v .table) n) held) (held-block d b still-held)
+  mild-changed = set-changed v d n b store (h .inside) (h .whole) others (held-block d (blockAt (v .table) n) (h .held)) (held-block d b still-held)
 
   found : blockAt (w .table) n ≡ b
-  found = getD-set-same (v .table .blocks) n b clearBlock (omega (arith, l, whole))
+  found = getD-set-same (v .table .blocks) n b clearBlock (omega (arith, h .inside, h .whole))
 
   mild-held : heldBy d (blockAt (w .table) n) ≡ true
   mild-held = rw found still-held
 
   mild-facts : Facts v → Facts w
   mild-facts f =
-      let o = held-owned v d n f p l held in
-      let h = eqb-true (blockAt (v .table) n .holder) d held in
-      facts-fewer p mild-changed f
-      (subst (λ (e : ℕ). domainAt (v .table) e .exists ≡ true) h (o .exists))
-      (omega (arith, o .high, h))
+      facts-fewer (h .low) mild-changed f (holder-exists h f) (holder-few h f)
       (rw found (block-facts-on (v .table) (w .table) b refl (λ q x. record { exists = x; placements = refl; last = omega arith })
-      (mild .facts (f .blocks n l))))
-      (rw (mild-held, held) (omega arith))
-      (rw (mild-held, held) (rw found (mild .opens)))
-      (λ s. rw (mild-held, held) (rw (found, mild .serial) (omega arith)))
-      (λ k. rw (mild-held, held) (rw found (mild .placed k)))
+      (mild .facts (f .blocks n (h .inside)))))
+      (rw (mild-held, h .held) (omega arith))
+      (rw (mild-held, h .held) (rw found (mild .opens)))
+      (λ s. rw (mild-held, h .held) (rw (found, mild .serial) (omega arith)))
+      (λ k. rw (mild-held, h .held) (rw found (mild .placed k)))
 
 -- ---- Freeing a block that the domain holds
 
-module _ (v : Drive) (d n : ℕ) (p : 1 ≤ d) (l : n < size (v .table)) (whole : size (v .table) ≤ length (v .table .blocks))
-    (held : heldBy d (blockAt (v .table) n) ≡ true) where
+module _ {d n : ℕ} {v : Drive} (h : HeldBlock d n v) where
   abbrev freeing : Drive
   freeing = record { table = freedAt n (v .table); store = v .store }
 
   pub freed-found : blockAt (freeing .table) n ≡ freed (blockAt (v .table) n)
-  freed-found = getD-set-same (v .table .blocks) n (freed (blockAt (v .table) n)) clearBlock (omega (arith, l, whole))
+  freed-found = getD-set-same (v .table .blocks) n (freed (blockAt (v .table) n)) clearBlock (omega (arith, h .inside, h .whole))
 
   pub freed-changed : Changed d n v freeing
   unfolding entriesOf
   freed-changed =
-      set-changed v d n (freed (blockAt (v .table) n)) (v .store) l whole (λ m k other. refl)
-      (held-block d (blockAt (v .table) n) held) (nobodys-block d (freed (blockAt (v .table) n)) refl)
+      set-changed v d n (freed (blockAt (v .table) n)) (v .store) (h .inside) (h .whole) (λ m k other. refl)
+      (held-block d (blockAt (v .table) n) (h .held)) (nobodys-block d (freed (blockAt (v .table) n)) refl)
 
   pub freed-not-held : heldBy d (blockAt (freeing .table) n) ≡ false
-  freed-not-held = rw freed-found (ne-eqb 0 d (λ e. omega arith))
+  freed-not-held = rw freed-found (ne-eqb 0 d (λ e. omega (arith, h .low)))
 
   pub freed-facts : Facts v → Facts freeing
   freed-facts f =
-      let o = held-owned v d n f p l held in
-      let h = eqb-true (blockAt (v .table) n .holder) d held in
-      facts-fewer p freed-changed f
-      (subst (λ (e : ℕ). domainAt (v .table) e .exists ≡ true) h (o .exists))
-      (omega (arith, o .high, h))
+      facts-fewer (h .low) freed-changed f (holder-exists h f) (holder-few h f)
       (rw freed-found (record { holder = refl; written = refl; left = refl; serial = refl }))
       (rw freed-not-held (omega arith))
       (rw freed-not-held (omega arith))
@@ -146,33 +171,30 @@ module _ (v : Drive) (d n : ℕ) (p : 1 ≤ d) (l : n < size (v .table)) (whole 
 
 -- ---- Closing, and writing into, a block that the domain holds
 
-module _ (v : Drive) (d n : ℕ) (p : 1 ≤ d) (l : n < size (v .table)) (whole : size (v .table) ≤ length (v .table .blocks))
-    (held : heldBy d (blockAt (v .table) n) ≡ true) where
+module _ {d n : ℕ} {v : Drive} (h : HeldBlock d n v) where
   abbrev closing : Drive
   closing = record { table = closedAt n (v .table); store = v .store }
 
   pub closed-found : blockAt (closing .table) n ≡ closed (blockAt (v .table) n)
-  closed-found = getD-set-same (v .table .blocks) n (closed (blockAt (v .table) n)) clearBlock (omega (arith, l, whole))
+  closed-found = getD-set-same (v .table .blocks) n (closed (blockAt (v .table) n)) clearBlock (omega (arith, h .inside, h .whole))
 
   pub closed-changed : Changed d n v closing
   unfolding entriesOf
   closed-changed =
-      mild-changed v d n (closed (blockAt (v .table) n)) (v .store) p l whole held (closed-mild (v .table) (blockAt (v .table) n)) (λ m k other. refl)
+      mild-changed h (closed (blockAt (v .table) n)) (v .store) (closed-mild (v .table) (blockAt (v .table) n)) (λ m k other. refl)
 
   closed-facts : Facts v → Facts closing
   unfolding entriesOf
   closed-facts f =
-      mild-facts v d n (closed (blockAt (v .table) n)) (v .store) p l whole held (closed-mild (v .table) (blockAt (v .table) n)) (λ m k other. refl) f
+      mild-facts h (closed (blockAt (v .table) n)) (v .store) (closed-mild (v .table) (blockAt (v .table) n)) (λ m k other. refl) f
 
   pub closed-sequel : Facts v → OwnSequel d v closing
   closed-sequel f = changed-sequel closed-changed (closed-facts f) refl (rw length-set) refl
 
   pub closed-held : heldBy d (blockAt (closing .table) n) ≡ true
-  closed-held = rw (closed-found, closed-mild (v .table) (blockAt (v .table) n) .holder) held
+  closed-held = rw (closed-found, closed-mild (v .table) (blockAt (v .table) n) .holder) (h .held)
 
-module _ (v : Drive) (d n : ℕ) (users : List ℕ) (p : 1 ≤ d) (r : Ready (v .table .config) v) (l : n < size (v .table))
-    (held : heldBy d (blockAt (v .table) n) ≡ true)
-    (fits : blockAt (v .table) n .written .0 + length users ≤ adusPerBlock (v .table .config) .0) where
+module _ {d n : ℕ} {users : List ℕ} {v : Drive} (x : Writable d n users v) where
   abbrev c : Config
   c = v .table .config
 
@@ -182,24 +204,33 @@ module _ (v : Drive) (d n : ℕ) (users : List ℕ) (p : 1 ≤ d) (r : Ready (v 
   abbrev filled : Block
   filled = writtenOn (adus (length users)) (adusPerBlock c) (blockAt (v .table) n)
 
+  held-one : HeldBlock d n v
+  held-one = record { low = x .low; inside = x .inside; whole = x .ready .blocks; held = x .held }
+
+  pub written-ready : Ready c filling
+  written-ready = into-ready c d n users v (x .ready) (x .inside) (x .fits)
+
+  pub written-record : blockAt (filling .table) n ≡ filled
+  written-record = into-record c d n users v (x .ready) (x .inside) (x .fits)
+
   others-stay : (m : ℕ) → m < size (v .table) → ¬ (m ≡ n) → entriesOf filling m ≡ entriesOf v m
   others-stay m k other =
-      entries-stay c v filling m r (written-ready c d n users v r l fits) k
-      (λ i small. written-other-entry c d n users v r l fits m i other small)
+      entries-stay c v filling m (x .ready) written-ready k
+      (λ i small. written-other-entry c d n users v (x .ready) (x .inside) (x .fits) m i other small)
 
   pub written-changed : Changed d n v filling
   unfolding writtenInto
   written-changed =
-      mild-changed v d n filled _ p l (r .blocks) held (written-mild (v .table) (adus (length users)) (blockAt (v .table) n)) others-stay
+      mild-changed held-one filled _ (written-mild (v .table) (adus (length users)) (blockAt (v .table) n)) others-stay
 
-  pub written-facts : Facts v → Facts filling
+  written-facts : Facts v → Facts filling
   unfolding writtenInto
   written-facts f =
-      mild-facts v d n filled _ p l (r .blocks) held (written-mild (v .table) (adus (length users)) (blockAt (v .table) n)) others-stay f
+      mild-facts held-one filled _ (written-mild (v .table) (adus (length users)) (blockAt (v .table) n)) others-stay f
 
   pub written-held : heldBy d (blockAt (filling .table) n) ≡ true
   written-held =
-      rw (written-record c d n users v r l fits, written-mild (v .table) (adus (length users)) (blockAt (v .table) n) .holder) held
+      rw (written-record, written-mild (v .table) (adus (length users)) (blockAt (v .table) n) .holder) (x .held)
 
   written-blocks : length (filling .table .blocks) ≡ length (v .table .blocks)
   unfolding writtenInto
@@ -212,47 +243,52 @@ module _ (v : Drive) (d n : ℕ) (users : List ℕ) (p : 1 ≤ d) (r : Ready (v 
   pub written-sequel : Facts v → OwnSequel d v filling
   written-sequel f =
       changed-sequel written-changed (written-facts f) (ap (λ (rs : List Domain). length rs) written-domains) written-blocks
-      (written-ready c d n users v r l fits .store ∙ sym (r .store))
+      (written-ready .store ∙ sym (x .ready .store))
 
 -- ---- Opening a block that nobody holds
 
-module _ (v : Drive) (d n : ℕ) (way : Way) (p : 1 ≤ d) (few : d ≤ 16) (r : Ready (v .table .config) v) (l : n < size (v .table))
-    (table : length (v .table .domains) ≡ 16) (nobody : blockAt (v .table) n .holder ≡ 0) where
+module _ {d n : ℕ} {v : Drive} (o : Openable d n v) (way : Way) where
   abbrev shape : Config
   shape = v .table .config
 
   abbrev opening : Drive
   opening = openedFor d way n v
 
+  pub opened-ready : Ready shape opening
+  opened-ready = open-ready shape d way n v (o .ready) (o .inside)
+
+  pub opened-record : blockAt (opening .table) n ≡ opened d way (nextSerial (v .table) d) (shape .period) (blockAt (v .table) n)
+  opened-record = open-record shape d way n v (o .ready) (o .inside)
+
   pub opened-domain : domainAt (opening .table) d ≡ withLast (nextSerial (v .table) d) (domainAt (v .table) d)
   unfolding openedFor
-  opened-domain = getD-set-same (v .table .domains) (d - 1) _ clearDomain (omega (arith, table, few, p))
+  opened-domain = getD-set-same (v .table .domains) (d - 1) _ clearDomain (omega (arith, o .domains, o .high, o .low))
 
   pub opened-held : heldBy d (blockAt (opening .table) n) ≡ true
-  opened-held = rw (opened-record shape d way n v r l) (eq-eqb d d refl)
+  opened-held = rw opened-record (eq-eqb d d refl)
 
   opened-others : (e : ℕ) → 1 ≤ e → ¬ (e ≡ d) → domainAt (opening .table) e ≡ domainAt (v .table) e
   unfolding openedFor
   opened-others e q other =
-      domain-other (v .table) d e (withLast (nextSerial (v .table) d) (domainAt (v .table) d)) p q (λ same. other (sym same))
+      domain-other (v .table) d e (withLast (nextSerial (v .table) d) (domainAt (v .table) d)) (o .low) q (λ same. other (sym same))
 
   pub opened-changed : Changed d n v opening
   opened-changed = record {
-    inside = l;
-    config = opened-ready shape d way n v r l .shape;
-    blocks = λ m other. opened-other shape d way n v r l m other;
+    inside = o .inside;
+    config = opened-ready .shape;
+    blocks = λ m other. opened-other shape d way n v (o .ready) (o .inside) m other;
     entries = λ m k other.
-        entries-stay shape v opening m r (opened-ready shape d way n v r l) k
-        (λ i small. opened-other-entry shape d way n v r l m i other small);
+        entries-stay shape v opening m (o .ready) opened-ready k
+        (λ i small. opened-other-entry shape d way n v (o .ready) (o .inside) m i other small);
     domains = opened-others;
     own = rw opened-domain;
     last = rw opened-domain (omega arith);
-    before = nobodys-block d (blockAt (v .table) n) nobody;
+    before = nobodys-block d (blockAt (v .table) n) (o .nobody);
     after = held-block d (blockAt (opening .table) n) opened-held;
   }
 
-  not-held : heldBy d (blockAt (v .table) n) ≡ false
-  not-held = rw nobody (ne-eqb 0 d (λ e. omega arith))
+  pub not-held : heldBy d (blockAt (v .table) n) ≡ false
+  not-held = rw (o .nobody) (ne-eqb 0 d (λ e. omega (arith, o .low)))
 
   pub opened-facts : Facts v
       → domainAt (v .table) d .exists ≡ true
@@ -263,7 +299,7 @@ module _ (v : Drive) (d n : ℕ) (way : Way) (p : 1 ≤ d) (few : d ≤ 16) (r :
       → ((k : ℕ) → isPlacedState k (Open way) ≡ true → view (ifPlaced k) d v ≡ 0)
       → Facts opening
   opened-facts f exists below quota covers limit placed =
-      facts-opened way p few opened-changed f exists not-held (opened-record shape d way n v r l)
+      facts-opened way (o .low) (o .high) opened-changed f exists not-held opened-record
       (rw opened-domain) below quota covers limit placed
 
   opened-blocks : length (opening .table .blocks) ≡ length (v .table .blocks)
@@ -276,7 +312,7 @@ module _ (v : Drive) (d n : ℕ) (way : Way) (p : 1 ≤ d) (few : d ≤ 16) (r :
 
   pub opened-sequel : Facts opening → OwnSequel d v opening
   opened-sequel f =
-      changed-sequel opened-changed f opened-domains opened-blocks (opened-ready shape d way n v r l .store ∙ sym (r .store))
+      changed-sequel opened-changed f opened-domains opened-blocks (opened-ready .store ∙ sym (o .ready .store))
 
   -- What the opened block adds to a view of its domain.
   pub opened-adds : (q : Holding → ℕ) → view q d opening ≡ view q d v + q (holdingAt opening n)
@@ -289,9 +325,9 @@ set-twice [] n x y = refl
 set-twice (z ∷ l) zero x y = refl
 set-twice (z ∷ l) (suc n) x y = ap (λ (k : List _). z ∷ k) (set-twice l n x y)
 
-pub reopened : (v : Drive) (d n : ℕ) (way : Way) → n < size (v .table) → size (v .table) ≤ length (v .table .blocks)
+pub reopened : {d n : ℕ} {v : Drive} → HeldBlock d n v → (way : Way)
     → openedFor d way n (record { table = freedAt n (v .table); store = v .store }) ≡ openedFor d way n v
 unfolding openedFor
-reopened v d n way l whole =
+reopened {d} {n} {v} h way =
     let b = blockAt (v .table) n in
-    rw (getD-set-same (v .table .blocks) n (freed b) clearBlock (omega (arith, l, whole)), set-twice (v .table .blocks) n)
+    rw (getD-set-same (v .table .blocks) n (freed b) clearBlock (omega (arith, h .inside, h .whole)), set-twice (v .table .blocks) n)

@@ -6,72 +6,41 @@ use mathlib.Core.Option.{some}
 use mathlib.Core.Path.{_≡_, refl, sym, ap, _∙_, subst}
 use native.Mathlib.Omega.{arith}
 use lib.Dec.{eqb}
-use lib.ListN.{length, length-set}
+use lib.ListN.{length-set}
 use borrow.Author.Tests.{eq-eqb, eqb-true, leb-true, ltb-true}
-use Rattle.geometry.proofs.Laws.Shape.{by-test, is-between, limits}
+use Rattle.geometry.proofs.Laws.Shape.{by-test, is-between}
 use Rattle.geometry.specs.Address.{isBlock}
-use Rattle.geometry.specs.Shape.{storeLength}
 use Rattle.model.specs.declared.block.Way.the-variants as way
 use Rattle.model.specs.declared.command.Command.the-variants.{Erase}
 use Rattle.model.specs.declared.table.Table.{Table}
 use Rattle.rules.specs.Blocks.{anyBlock, chosenBlock, freedAt, openedFor}
 use Rattle.rules.specs.Drive.{Drive, blockAt, domainAt, heldCount, isFree, openCount, size}
 use Rattle.rules.specs.Effects.{effect, verdict}
-use Rattle.rules.specs.Claims.{LentOwn, Shaped}
 use Rattle.rules.specs.Observation.{Holding, holdingAt}
-use Rattle.rules.specs.Questions.{Lengths, isHeld, newOfErase, questions, storeFits}
+use Rattle.rules.specs.Questions.{Lengths, isHeld, newOfErase, questions}
+use Rattle.rules.proofs.Counting.{the-first}
+use Rattle.rules.proofs.Kept.Fit.{Fit, fit-blocks, fit-ready}
 use Rattle.rules.proofs.Blocks.{Choice, choice}
-use Rattle.rules.proofs.Kept.Changes.{freed-changed, freed-facts, freed-found, freed-not-held, freed-sequel, opened-changed, opened-facts, opened-sequel, reopened}
+use Rattle.rules.proofs.Kept.Changes.{freed-changed, freed-facts, freed-found, freed-not-held, freed-sequel, HeldBlock, Openable, opened-facts, opened-sequel, reopened}
 use Rattle.rules.proofs.Kept.Facts.{Facts}
-use Rattle.rules.proofs.Kept.OneBlock.{OwnSequel, coverage-changed, coverage-now, coverageWith, sequel-then}
-use Rattle.rules.proofs.Kept.Onwards.{free-nobody}
+use Rattle.rules.proofs.Kept.OneBlock.{free-nobody, OwnSequel, coverage-changed, coverage-now, coverageWith, sequel-then}
 use Rattle.rules.proofs.Questions.{answered-yes}
 use Rattle.rules.proofs.Kept.Tested.{room-chosen}
-use Rattle.rules.proofs.Kept.Views.{Changed, held-view, ifOpen, one, open-view, view, view-changed}
-use Rattle.rules.proofs.Writes.{Ready}
+use Rattle.rules.proofs.Kept.Views.{held-view, ifOpen, one, open-view, view, view-changed}
 
 -- A block that may be opened for a domain.
 pub record Opens (d n : ℕ) (v : Drive) : Type 0 where
-  pub low : 1 ≤ d
-  pub high : d ≤ 16
+  pub block : Openable d n v
   pub facts : Facts v
-  pub ready : Ready (v .table .config) v
-  pub domains : length (v .table .domains) ≡ 16
-  pub inside : n < size (v .table)
-  pub nobody : blockAt (v .table) n .holder ≡ 0
   pub exists : domainAt (v .table) d .exists ≡ true
   pub quota : heldCount (v .table) d + 1 ≤ domainAt (v .table) d .quota
   pub covers : coverageWith (v .table) d (heldCount (v .table) d + 1) ≤ size (v .table)
   pub limit : openCount (v .table) d < domainAt (v .table) d .limit
 
-pub opens-changed : {d n : ℕ} {v : Drive} → Opens d n v → Changed d n v (openedFor d way.Erase n v)
-opens-changed {d} {n} {v} o = opened-changed v d n way.Erase (o .low) (o .high) (o .ready) (o .inside) (o .domains) (o .nobody)
-
 opens-sequel : {d n : ℕ} {v : Drive} → Opens d n v → OwnSequel d v (openedFor d way.Erase n v)
-opens-sequel {d} {n} {v} o =
-    opened-sequel v d n way.Erase (o .low) (o .high) (o .ready) (o .inside) (o .domains) (o .nobody)
-    (opened-facts v d n way.Erase (o .low) (o .high) (o .ready) (o .inside) (o .domains) (o .nobody)
-    (o .facts) (o .exists) refl (o .quota) (o .covers) (o .limit) (λ k e. absurd (true≢false (sym e))))
-
--- What a call finds: a sound table with a record for each domain and block, and the drive's own store if it is lent a whole one.
-pub record Fit (v : Drive) (lent : Lengths) : Type 0 where
-  pub facts : Facts v
-  pub shaped : Shaped (v .table)
-  pub own : LentOwn v lent
-
-pub fit-blocks : {v : Drive} {lent : Lengths} → Fit v lent → size (v .table) ≤ length (v .table .blocks)
-fit-blocks {v} f = omega (arith, f .shaped .blocks, limits (v .table .config) (f .facts .limits) .ranges .blocks .most)
-
-pub fit-ready : {v : Drive} {lent : Lengths} → Fit v lent → storeFits (v .table) lent ≡ true → Ready (v .table .config) v
-fit-ready {v} {lent} f e = record {
-  shape = refl;
-  blocks = fit-blocks f;
-  store = f .own (eqb-true (lent .store) (storeLength (v .table .config) .0) e);
-}
-
-the-first : (a b : Bool) → a || b ≡ true → b ≡ false → a ≡ true
-the-first true b e f = refl
-the-first false b e f = absurd (true≢false (sym e ∙ f))
+opens-sequel o =
+    opened-sequel (o .block) way.Erase
+    (opened-facts (o .block) way.Erase (o .facts) (o .exists) refl (o .quota) (o .covers) (o .limit) (λ k e. absurd (true≢false (sym e))))
 
 the-middle : (a b c : Bool) → a || b || c ≡ true → a ≡ false → c ≡ false → b ≡ true
 the-middle true b c e f g = absurd (true≢false f)
@@ -88,13 +57,15 @@ module _ (v : Drive) (lent : Lengths) (fit : Fit v lent) (d n : ℕ) (e : verdic
   new-opens m l nobody adds =
       let id = is-between 1 16 d (answered-yes v lent (Erase d n) 2 e) in
       record {
-        low = id .least;
-        high = id .most;
+        block = record {
+          low = id .least;
+          high = id .most;
+          ready = fit-ready fit (answered-yes v lent (Erase d n) 1 e);
+          domains = fit .shaped .domains;
+          inside = l;
+          nobody = nobody;
+        };
         facts = fit .facts;
-        ready = fit-ready fit (answered-yes v lent (Erase d n) 1 e);
-        domains = fit .shaped .domains;
-        inside = l;
-        nobody = nobody;
         exists = answered-yes v lent (Erase d n) 3 e;
         quota =
             subst (λ (k : ℕ). heldCount t d + k ≤ domainAt t d .quota) adds
@@ -144,20 +115,19 @@ module _ (v : Drive) (lent : Lengths) (fit : Fit v lent) (d n : ℕ) (e : verdic
   freeing = record { table = freedAt n t; store = v .store }
 
   module _ (other : eqb n anyBlock ≡ false) (held : isHeld t d n ≡ true) where
-    again-inside : n < size t
-    again-inside = named-inside other
-
-    again-low : 1 ≤ d
+    again-held : HeldBlock d n v
     unfolding questions
-    again-low = is-between 1 16 d (answered-yes v lent (Erase d n) 2 e) .least
-
-    again-changed : Changed d n v freeing
-    again-changed = freed-changed v d n again-low again-inside (fit-blocks fit) held
+    again-held = record {
+      low = is-between 1 16 d (answered-yes v lent (Erase d n) 2 e) .least;
+      inside = named-inside other;
+      whole = fit-blocks fit;
+      held = held;
+    }
 
     fewer : (q : Holding → ℕ) → view q d freeing + q (holdingAt v n) ≡ view q d v
     fewer q =
-        let h = view-changed again-changed q d in
-        omega (arith, rw (held, freed-not-held v d n again-low again-inside (fit-blocks fit) held) at h)
+        let h = view-changed (freed-changed again-held) q d in
+        omega (arith, rw (held, freed-not-held again-held) at h)
 
     one-fewer : heldCount (freeing .table) d + 1 ≡ heldCount t d
     one-fewer = omega (arith, held-view v d, held-view freeing d, fewer one)
@@ -168,13 +138,15 @@ module _ (v : Drive) (lent : Lengths) (fit : Fit v lent) (d n : ℕ) (e : verdic
         let id = is-between 1 16 d (answered-yes v lent (Erase d n) 2 e) in
         let ready = fit-ready fit (answered-yes v lent (Erase d n) 1 e) in
         record {
-          low = id .least;
-          high = id .most;
-          facts = freed-facts v d n again-low again-inside (fit-blocks fit) held (fit .facts);
-          ready = record { shape = refl; blocks = rw length-set (ready .blocks); store = ready .store };
-          domains = fit .shaped .domains;
-          inside = again-inside;
-          nobody = rw (freed-found v d n again-low again-inside (fit-blocks fit) held);
+          block = record {
+            low = id .least;
+            high = id .most;
+            ready = record { shape = refl; blocks = rw length-set (ready .blocks); store = ready .store };
+            domains = fit .shaped .domains;
+            inside = named-inside other;
+            nobody = rw (freed-found again-held);
+          };
+          facts = freed-facts again-held (fit .facts);
           exists = answered-yes v lent (Erase d n) 3 e;
           quota = omega (arith, one-fewer, fit .facts .domains d (id .least) (id .most) .within);
           covers =
@@ -182,7 +154,7 @@ module _ (v : Drive) (lent : Lengths) (fit : Fit v lent) (d n : ℕ) (e : verdic
                 arith,
                 fit .facts .covers,
                 coverage-now t d,
-                coverage-changed again-changed (heldCount t d),
+                coverage-changed (freed-changed again-held) (heldCount t d),
                 ap (λ (h : ℕ). coverageWith (freeing .table) d h) one-fewer,
               );
           limit =
@@ -196,12 +168,12 @@ module _ (v : Drive) (lent : Lengths) (fit : Fit v lent) (d n : ℕ) (e : verdic
         }
 
     pub again-is : openedFor d way.Erase n freeing ≡ openedFor d way.Erase n v
-    again-is = reopened v d n way.Erase again-inside (fit-blocks fit)
+    again-is = reopened again-held way.Erase
 
     again-sequel : OwnSequel d v (openedFor d way.Erase n v)
     again-sequel =
         subst (OwnSequel d v) again-is
-        (sequel-then (freed-sequel v d n again-low again-inside (fit-blocks fit) held (fit .facts)) (opens-sequel again-opens))
+        (sequel-then (freed-sequel again-held (fit .facts)) (opens-sequel again-opens))
 
   pub erase-sequel : OwnSequel d v (effect (Erase d n) v .drive)
   unfolding effect

@@ -17,7 +17,7 @@ use Rattle.model.specs.declared.table.Domain.{Domain}
 use Rattle.model.specs.declared.table.Table.{Table}
 use Rattle.rules.specs.Blocks.{nextSerial}
 use Rattle.rules.specs.Domains.{coverage, instead, reservedBy}
-use Rattle.rules.specs.Drive.{Drive, blockAt, domainAt, heldBy, heldCount, isPlacedState, openCount, size}
+use Rattle.rules.specs.Drive.{blockAt, domainAt, Drive, heldBy, heldCount, isFreeState, isPlacedState, openCount, size}
 use Rattle.rules.specs.Observation.{Holding, holdingAt}
 use Rattle.rules.specs.Soundness.{wayBelow}
 use Rattle.rules.proofs.Counting.{by-eq, sum-le, sum-same, sum-zero}
@@ -235,6 +235,12 @@ pub held-owned : (v : Drive) (d n : ℕ) → Facts v → 1 ≤ d → n < size (v
 held-owned v d n f p l e =
     let b = blockAt (v .table) n in
     state-owned (v .table) (b .state) b (f .blocks n l) (omega (arith, p, eqb-true (b .holder) d e))
+
+-- A Free block has no holder.
+pub free-nobody : (t : Table) (s : State) (b : Block) → isFreeState s ≡ true → StateFacts t s b → b .holder ≡ 0
+free-nobody t Free b e f = f .holder
+free-nobody t (Open way) b e f = absurd (true≢false (sym e))
+free-nobody t (Closed way) b e f = absurd (true≢false (sym e))
 
 -- A view of weights that are all 0.
 pub view-none : (q : Holding → ℕ) (d : ℕ) (v : Drive)

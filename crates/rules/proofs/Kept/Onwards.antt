@@ -1,7 +1,7 @@
 -- Write by placement: into the placement's open block, then into others that are opened for it. Each step leaves a sound table sound,
 -- and there is a Free block for each that is opened.
 use Prim.Native.Nat.{ℕ, zero, suc, _+_, _-_, _*_, _/_, _≤_, _<_, min}
-use mathlib.Core.Bool.{Bool, true, false, true≢false, _&&_, cond}
+use mathlib.Core.Bool.{Bool, true, false, _&&_, cond}
 use mathlib.Core.List.{List}
 use mathlib.Core.Option.{Option, none, some}
 use mathlib.Core.Path.{_≡_, refl, sym, ap, _∙_, subst}
@@ -13,7 +13,7 @@ use borrow.Author.Tests.{eqb-true, le-ltb, lt-ltb}
 use Rattle.geometry.proofs.Laws.Shape.{both, by-test}
 use Rattle.geometry.specs.Shape.{adus, adusPerBlock}
 use Rattle.geometry.specs.declared.shape.Config.{Config}
-use Rattle.model.specs.Blocks.{closed, opened, writtenFrom, writtenOn}
+use Rattle.model.specs.Blocks.{closed, writtenFrom, writtenOn}
 use Rattle.model.specs.declared.block.Block.{Block}
 use Rattle.model.specs.declared.block.State.{State}
 use Rattle.model.specs.declared.block.State.the-variants.{Closed, Free, Open}
@@ -21,17 +21,17 @@ use Rattle.model.specs.declared.block.Way.the-variants.{Placement}
 use Rattle.model.specs.declared.table.Domain.{Domain}
 use Rattle.model.specs.declared.table.Table.{Table}
 use Rattle.rules.specs.Blocks.{Written, chosenBlock, nextSerial, openedFor, withLast, writtenInto, writtenOnwards}
-use Rattle.rules.specs.Drive.{Drive, blockAt, clearDomain, domainAt, heldBy, heldCount, isFree, isFreeState, isOpen, isOpenFor, openBlockTo, openCount, size}
+use Rattle.rules.specs.Drive.{Drive, blockAt, clearDomain, domainAt, heldBy, heldCount, isFree, isOpen, isOpenFor, openBlockTo, openCount, size}
 use Rattle.rules.specs.Observation.{Holding, holdingAt}
 use Rattle.rules.proofs.Blocks.{Choice, choice}
-use Rattle.rules.proofs.Kept.Changes.{opened-adds, opened-changed, opened-domain, opened-facts, opened-held, opened-sequel, written-changed, written-domains, written-sequel, written-facts, written-held}
+use Rattle.rules.proofs.Kept.Changes.{Openable, Writable, opened-adds, opened-changed, opened-domain, opened-facts, opened-held, opened-ready, opened-record, opened-sequel, written-changed, written-domains, written-held, written-ready, written-record, written-sequel}
 use Rattle.rules.proofs.Counting.{by-eq}
 use Rattle.rules.proofs.Effects.{written-length}
-use Rattle.rules.proofs.Kept.Facts.{Facts, StateFacts}
-use Rattle.rules.proofs.Kept.OneBlock.{OwnSequel, coverage-changed, coverage-le, coverageWith, same-sequel, sequel-then, view-none}
+use Rattle.rules.proofs.Kept.Facts.{Facts}
+use Rattle.rules.proofs.Kept.OneBlock.{coverage-changed, coverage-le, coverageWith, free-nobody, OwnSequel, same-sequel, sequel-then, view-none}
 use Rattle.rules.proofs.Kept.Tested.{room-chosen}
-use Rattle.rules.proofs.Kept.Views.{Changed, held-view, ifOpen, ifPlaced, one, open-view, view, view-changed}
-use Rattle.rules.proofs.Writes.{Ready, onwards-some, onwards-zero, opened-ready, opened-record, written-ready, written-record}
+use Rattle.rules.proofs.Kept.Views.{held-view, ifOpen, ifPlaced, one, open-view, view, view-changed}
+use Rattle.rules.proofs.Writes.{Ready, onwards-some, onwards-zero}
 
 -- ---- So many blocks of C ADUs take so many ADUs, the last one at least one of them.
 abbrev pub Takes : ℕ → ℕ → ℕ → Type 0
@@ -115,10 +115,9 @@ open-to v d p (suc s) =
 pub none-placed : (v : Drive) (d p : ℕ) → OpenTo v d p (size (v .table)) none → view (ifPlaced p) d v ≡ 0
 none-placed v d p o = view-none (ifPlaced p) d v (λ n l held. rw (o n l held))
 
-pub free-nobody : (t : Table) (s : State) (b : Block) → isFreeState s ≡ true → StateFacts t s b → b .holder ≡ 0
-free-nobody t Free b e f = f .holder
-free-nobody t (Open way) b e f = absurd (true≢false (sym e))
-free-nobody t (Closed way) b e f = absurd (true≢false (sym e))
+-- What does not pass weighs nothing.
+pub no-weight : {b : Bool} → b ≡ false → _≡_ {A = ℕ} (cond b 1 0) 0
+no-weight e = rw e
 
 -- Coverage with fewer blocks is no more.
 coverage-grows : (t : Table) (d h k : ℕ) → h ≤ k → coverageWith t d h ≤ coverageWith t d k
@@ -166,18 +165,22 @@ module _ {d p k : ℕ} {users : List ℕ} {v : Drive} (o : Onward d p (suc k) us
     chosen-free : (n < size (v .table)) × (isFree (blockAt (v .table) n) ≡ true)
     chosen-free = let x = subst (Choice (v .table) (size (v .table))) chosen (choice (v .table) (size (v .table))) in (x .inside, x .free)
 
-    pub inside : n < size (v .table)
-    inside = chosen-free .0
-
-    pub nobody : blockAt (v .table) n .holder ≡ 0
-    nobody = free-nobody (v .table) (blockAt (v .table) n .state) (blockAt (v .table) n) (chosen-free .1) (o .facts .blocks n inside)
-
-    pub open-changed : Changed d n v opening
-    open-changed = opened-changed v d n (Placement p) (o .low) (o .high) (o .ready) inside (o .domains) nobody
+    -- It may be opened, ..
+    pub next-openable : Openable d n v
+    next-openable = record {
+      low = o .low;
+      high = o .high;
+      ready = o .ready;
+      domains = o .domains;
+      inside = chosen-free .0;
+      nobody =
+          free-nobody (v .table) (blockAt (v .table) n .state) (blockAt (v .table) n) (chosen-free .1)
+          (o .facts .blocks n (chosen-free .0));
+    }
 
     open-facts : Facts opening
     open-facts =
-        opened-facts v d n (Placement p) (o .low) (o .high) (o .ready) inside (o .domains) nobody (o .facts) (o .exists)
+        opened-facts next-openable (Placement p) (o .facts) (o .exists)
         (lt-ltb p (domainAt (v .table) d .placements) (o .placement))
         (omega (arith, o .quota))
         (omega (arith, o .covers, coverage-grows (v .table) d (heldCount (v .table) d + 1) (heldCount (v .table) d + suc k) (omega arith)))
@@ -185,58 +188,34 @@ module _ {d p k : ℕ} {users : List ℕ} {v : Drive} (o : Onward d p (suc k) us
         (λ q e. subst (λ (x : ℕ). view (ifPlaced x) d v ≡ 0) (eqb-true p q e) (o .none-open (omega arith)))
 
     open-ready : Ready c opening
-    open-ready = opened-ready c d (Placement p) n v (o .ready) inside
-
-    open-record : blockAt (opening .table) n ≡ opened d (Placement p) (nextSerial (v .table) d) (c .period) (blockAt (v .table) n)
-    open-record = opened-record c d (Placement p) n v (o .ready) inside
-
-    pub open-own : Ready (opening .table .config) opening
-    open-own = subst (λ (x : Config). Ready x opening) (sym (open-ready .shape)) open-ready
-
-    pub open-held : heldBy d (blockAt (opening .table) n) ≡ true
-    open-held = opened-held v d n (Placement p) (o .low) (o .high) (o .ready) inside (o .domains) nobody
-
-    pub inside-opening : n < size (opening .table)
-    inside-opening = subst (λ (x : Config). n < x .blocks) (sym (open-ready .shape)) inside
+    open-ready = opened-ready next-openable (Placement p)
 
     few : length these ≤ perBlock
     few = rw length-take (omega arith)
 
-    pub open-fits : blockAt (opening .table) n .written .0 + length these ≤ adusPerBlock (opening .table .config) .0
-    open-fits = rw (open-record, open-ready .shape) (omega (arith, few))
-
-    pub fill-changed : Changed d n opening filling
-    fill-changed = written-changed opening d n these (o .low) open-own inside-opening open-held open-fits
-
-    fill-facts : Facts filling
-    fill-facts = written-facts opening d n these (o .low) open-own inside-opening open-held open-fits open-facts
-
-    fill-held : heldBy d (blockAt (filling .table) n) ≡ true
-    fill-held = written-held opening d n these (o .low) open-own inside-opening open-held open-fits
-
-    fill-ready : Ready (opening .table .config) filling
-    fill-ready = written-ready (opening .table .config) d n these opening open-own inside-opening open-fits
+    -- .. and then written.
+    pub next-writable : Writable d n these opening
+    next-writable = record {
+      low = o .low;
+      ready = subst (λ (x : Config). Ready x opening) (sym (open-ready .shape)) open-ready;
+      inside = subst (λ (x : Config). n < x .blocks) (sym (open-ready .shape)) (chosen-free .0);
+      held = opened-held next-openable (Placement p);
+      fits = rw (opened-record next-openable (Placement p), open-ready .shape) (omega (arith, few));
+    }
 
     pub fill-config : filling .table .config ≡ c
-    fill-config = fill-ready .shape ∙ open-ready .shape
-
-    fill-record : blockAt (filling .table) n ≡ writtenOn (adus (length these)) (adusPerBlock (opening .table .config)) (blockAt (opening .table) n)
-    fill-record = written-record (opening .table .config) d n these opening open-own inside-opening open-fits
+    fill-config = written-ready next-writable .shape ∙ open-ready .shape
 
     -- What both together add to a view of the domain.
     fill-adds : (q : Holding → ℕ) → view q d filling ≡ view q d v + q (holdingAt filling n)
     fill-adds q =
-        let h = view-changed fill-changed q d in
-        omega (
-          arith,
-          rw (open-held, fill-held) at h,
-          opened-adds v d n (Placement p) (o .low) (o .high) (o .ready) inside (o .domains) nobody q,
-        )
+        let h = view-changed (written-changed next-writable) q d in
+        omega (arith, rw (next-writable .held, written-held next-writable) at h, opened-adds next-openable (Placement p) q)
 
     fill-domain : domainAt (filling .table) d ≡ withLast (nextSerial (v .table) d) (domainAt (v .table) d)
     fill-domain =
-        ap (λ (rs : List Domain). getD rs (d - 1) clearDomain) (written-domains opening d n these (o .low) open-own inside-opening open-held open-fits)
-        ∙ opened-domain v d n (Placement p) (o .low) (o .high) (o .ready) inside (o .domains) nobody
+        ap (λ (rs : List Domain). getD rs (d - 1) clearDomain) (written-domains next-writable)
+        ∙ opened-domain next-openable (Placement p)
 
     fill-held-count : heldCount (filling .table) d ≡ heldCount (v .table) d + 1
     fill-held-count = omega (arith, held-view v d, held-view filling d, fill-adds one)
@@ -245,22 +224,22 @@ module _ {d p k : ℕ} {users : List ℕ} {v : Drive} (o : Onward d p (suc k) us
     full : 1 ≤ k → (isOpen (blockAt (filling .table) n) ≡ false) × (isOpenFor p (blockAt (filling .table) n) ≡ false)
     full more =
         let enough : perBlock ≤ length these = rw length-take (omega (arith, takes-more perBlock k (length users) more (o .count))) in
-        rw fill-record
+        rw (written-record next-writable)
         (full-closed (length these) (adusPerBlock (opening .table .config) .0) (blockAt (opening .table) n) p
         (rw (open-ready .shape) (omega (arith, enough))))
 
     next-sequel : OwnSequel d v filling
     next-sequel =
         sequel-then
-        (opened-sequel v d n (Placement p) (o .low) (o .high) (o .ready) inside (o .domains) nobody open-facts)
-        (written-sequel opening d n these (o .low) open-own inside-opening open-held open-fits open-facts)
+        (opened-sequel next-openable (Placement p) open-facts)
+        (written-sequel next-writable open-facts)
 
     pub next-onward : Onward d p k (drop perBlock users) filling
     next-onward = record {
       low = o .low;
       high = o .high;
-      facts = fill-facts;
-      ready = subst (λ (x : Config). Ready x filling) (sym (fill-ready .shape)) fill-ready;
+      facts = next-sequel .sequel .facts;
+      ready = subst (λ (x : Config). Ready x filling) (sym (written-ready next-writable .shape)) (written-ready next-writable);
       domains = next-sequel .sequel .domains ∙ o .domains;
       exists = ap (λ (r : Domain). r .exists) fill-domain ∙ o .exists;
       placement = rw fill-domain (o .placement);
@@ -275,8 +254,8 @@ module _ {d p k : ℕ} {users : List ℕ} {v : Drive} (o : Onward d p (suc k) us
             o .covers,
             ap (λ (x : Config). x .blocks) fill-config,
             ap (λ (h : ℕ). coverageWith (filling .table) d (h + k)) fill-held-count,
-            coverage-changed fill-changed (heldCount (v .table) d + 1 + k),
-            coverage-changed open-changed (heldCount (v .table) d + 1 + k),
+            coverage-changed (written-changed next-writable) (heldCount (v .table) d + 1 + k),
+            coverage-changed (opened-changed next-openable (Placement p)) (heldCount (v .table) d + 1 + k),
             ap (λ (h : ℕ). coverageWith (v .table) d h) (onemore (heldCount (v .table) d)),
           );
       count =
@@ -284,9 +263,6 @@ module _ {d p k : ℕ} {users : List ℕ} {v : Drive} (o : Onward d p (suc k) us
           (rw length-drop (takes-next perBlock k (length users) (o .count)));
     }
       where
-        no-weight : {b : Bool} → b ≡ false → _≡_ {A = ℕ} (cond b 1 0) 0
-        no-weight e = rw e
-
         onemore : (h : ℕ) → h + 1 + k ≡ h + suc k
         onemore h = omega arith
 

@@ -20,13 +20,13 @@ use Rattle.rules.specs.Blocks.{Written, newBlocks, room, roomIn, written
 use Rattle.rules.specs.Drive.{Drive, blockAt, clearDomain, domainAt, heldBy, heldCount, isOpen, isOpenFor, isOpenState, isPlacedState, openBlock, size}
 use Rattle.rules.specs.Observation.{Holding, holdingAt}
 use Rattle.rules.specs.Questions.{mayOpenFor}
-use Rattle.rules.proofs.Kept.Changes.{written-changed, written-domains, written-sequel, written-held}
+use Rattle.rules.proofs.Kept.Changes.{Writable, written-changed, written-domains, written-held, written-ready, written-record, written-sequel}
 use Rattle.rules.proofs.Effects.{written-length}
 use Rattle.rules.proofs.Kept.Facts.{Facts, StateFacts}
 use Rattle.rules.proofs.Kept.OneBlock.{OwnSequel, coverage-changed, coverageWith, sequel-then}
-use Rattle.rules.proofs.Kept.Onwards.{Onward, OpenTo, Takes, full-closed, none-placed, onward-all, onward-sequel, open-to, takes, takes-some}
-use Rattle.rules.proofs.Kept.Views.{Changed, held-view, ifOpen, ifPlaced, one, open-view, view, view-changed}
-use Rattle.rules.proofs.Writes.{Ready, written-ready, written-record}
+use Rattle.rules.proofs.Kept.Onwards.{Onward, OpenTo, Takes, full-closed, no-weight, none-placed, onward-all, onward-sequel, open-to, takes, takes-some}
+use Rattle.rules.proofs.Kept.Views.{held-view, ifOpen, ifPlaced, one, open-view, view, view-changed}
+use Rattle.rules.proofs.Writes.{Ready}
 
 -- What an accepted Write by placement was asked.
 pub record Asked (d p : ℕ) (users : List ℕ) (v : Drive) : Type 0 where
@@ -80,9 +80,6 @@ placed-open (Closed way) p e = absurd (true≢false (sym e))
 weighs : {b : Bool} → b ≡ true → _≡_ {A = ℕ} (cond b 1 0) 1
 weighs e = rw e
 
-no-weight : {b : Bool} → b ≡ false → _≡_ {A = ℕ} (cond b 1 0) 0
-no-weight e = rw e
-
 module _ {d p : ℕ} {users : List ℕ} {v : Drive} (a : Asked d p users v) where
   abbrev shape : Config
   shape = v .table .config
@@ -119,45 +116,46 @@ module _ {d p : ℕ} {users : List ℕ} {v : Drive} (a : Asked d p users v) wher
     abbrev first : Drive
     first = writtenInto d n these v .drive
 
-    pub is-open : (n < size (v .table)) × (heldBy d (blockAt (v .table) n) ≡ true) × (isOpenFor p (blockAt (v .table) n) ≡ true)
+    is-open : (n < size (v .table)) × (heldBy d (blockAt (v .table) n) ≡ true) × (isOpenFor p (blockAt (v .table) n) ≡ true)
     is-open = subst (OpenTo v d p (size (v .table))) e (open-to v d p (size (v .table)))
 
     has-room : blockAt (v .table) n .written .0 < most
     has-room = open-written (v .table) (blockAt (v .table) n .state) (blockAt (v .table) n) p (is-open .2) (a .facts .blocks n (is-open .0))
 
-    pub fits : blockAt (v .table) n .written .0 + length these ≤ most
-    fits = rw length-take (omega (arith, has-room))
-
-    first-changed : Changed d n v first
-    first-changed = written-changed v d n these (a .low) (a .ready) (is-open .0) (is-open .1) fits
+    -- It may be written into.
+    pub first-writable : Writable d n these v
+    first-writable = record {
+      low = a .low;
+      ready = a .ready;
+      inside = is-open .0;
+      held = is-open .1;
+      fits = rw length-take (omega (arith, has-room));
+    }
 
     first-sequel : OwnSequel d v first
-    first-sequel = written-sequel v d n these (a .low) (a .ready) (is-open .0) (is-open .1) fits (a .facts)
-
-    first-held : heldBy d (blockAt (first .table) n) ≡ true
-    first-held = written-held v d n these (a .low) (a .ready) (is-open .0) (is-open .1) fits
+    first-sequel = written-sequel first-writable (a .facts)
 
     -- What it changes in a view of the domain.
     first-view : (q : Holding → ℕ) → view q d first + q (holdingAt v n) ≡ view q d v + q (holdingAt first n)
-    first-view q = let h = view-changed first-changed q d in rw (is-open .1, first-held) at h
+    first-view q = let h = view-changed (written-changed first-writable) q d in rw (is-open .1, written-held first-writable) at h
 
     same-held : heldCount (first .table) d ≡ heldCount (v .table) d
     same-held = omega (arith, held-view v d, held-view first d, first-view one)
 
     first-domain : domainAt (first .table) d ≡ domainAt (v .table) d
     first-domain =
-        ap (λ (rs : List Domain). getD rs (d - 1) clearDomain) (written-domains v d n these (a .low) (a .ready) (is-open .0) (is-open .1) fits)
+        ap (λ (rs : List Domain). getD rs (d - 1) clearDomain) (written-domains first-writable)
 
     first-ready : Ready (first .table .config) first
     first-ready =
-        let r = written-ready shape d n these v (a .ready) (is-open .0) fits in
+        let r = written-ready first-writable in
         subst (λ (x : Config). Ready x first) (sym (r .shape)) r
 
     -- Where more is to come the block is full.
     full : roomIn (v .table) (some n) < length users
         → (isOpen (blockAt (first .table) n) ≡ false) × (isOpenFor p (blockAt (first .table) n) ≡ false)
     full more =
-        rw (written-record shape d n these v (a .ready) (is-open .0) fits)
+        rw (written-record first-writable)
         (full-closed (length these) most (blockAt (v .table) n) p (rw length-take (omega (arith, more, has-room))))
 
     more-to-come : 1 ≤ newFor (v .table) (some n) (length users) → roomIn (v .table) (some n) < length users
@@ -203,7 +201,7 @@ module _ {d p : ℕ} {users : List ℕ} {v : Drive} (a : Asked d p users v) wher
                 (new-for (v .table) d p (length users) (some n) e) (a .covers),
             ap (λ (x : Config). x .blocks) (first-sequel .sequel .config),
             ap (λ (h : ℕ). coverageWith (first .table) d (h + newFor (v .table) (some n) (length users))) same-held,
-            coverage-changed first-changed (heldCount (v .table) d + newFor (v .table) (some n) (length users)),
+            coverage-changed (written-changed first-writable) (heldCount (v .table) d + newFor (v .table) (some n) (length users)),
           );
       count =
           subst (λ (x : Config). Takes (adusPerBlock x .0) (newFor (v .table) (some n) (length users)) (length (drop (roomIn (v .table) (some n)) users)))

@@ -1,10 +1,10 @@
 -- The same Close, Free, Erase or Write by block in two drives that the domain cannot tell apart.
-use Prim.Native.Nat.{ℕ, _+_, _≤_, _<_, min}
+use Prim.Native.Nat.{_+_, _-_, min, ℕ}
 use mathlib.Core.Bool.{true}
 use mathlib.Core.List.{List, [], _∷_}
 use mathlib.Core.Path.{_≡_, refl, sym, ap, ap₂, _∙_}
 use lib.Dec.{ltb}
-use lib.ListN.{length, replicate}
+use lib.ListN.{getD, length, replicate}
 use borrow.Author.Tests.{lt-ltb, ltb-true}
 use Rattle.geometry.proofs.Laws.Shape.{by-test}
 use Rattle.geometry.specs.Address.{isBlock}
@@ -17,21 +17,21 @@ use Rattle.model.specs.declared.block.State.{State}
 use Rattle.model.specs.declared.block.State.the-variants as state
 use Rattle.model.specs.declared.block.Way.{Way}
 use Rattle.model.specs.declared.command.Command.the-variants.{Close, Free}
-use Rattle.rules.specs.Blocks.{allOnes, closedAt, nextSerial, openedFor, writtenInto}
-use Rattle.rules.specs.Drive.{Drive, blockAt, heldBy, overwritten, size}
+use Rattle.rules.specs.Blocks.{allOnes, closedAt, nextSerial, openedFor, withLast, writtenInto}
+use Rattle.rules.specs.Drive.{blockAt, clearDomain, Drive, heldBy, overwritten, size}
 use Rattle.rules.specs.Effects.{effect, verdict}
 use Rattle.rules.specs.Observation.{Bytes, Holding, Observation, Words, entriesOf, holdingAt, nameOf}
 use Rattle.rules.specs.Questions.{Lengths, questions}
+use Rattle.model.specs.declared.table.Domain.{Domain}
+use Rattle.rules.proofs.Kept.Fit.{Fit, fit-blocks}
 use Rattle.rules.proofs.Kept.Asked.{close-asked, free-asked}
-use Rattle.rules.proofs.Kept.Changes.{closed-changed, closed-found, closed-held, freed-changed, freed-not-held}
+use Rattle.rules.proofs.Kept.Changes.{HeldBlock, Openable, Writable, closed-changed, closed-found, closed-held, freed-changed, freed-not-held, not-held, opened-changed, opened-domain, opened-held, opened-record, written-changed, written-domains, written-held, written-record}
 use Rattle.rules.proofs.Noninterference.Common.{Pair, exists-same, holding-same, inside-other, inside-same, own-other, own-same, sound-same}
 use Rattle.rules.proofs.Kept.Entries.{entries-opened, entries-written}
-use Rattle.rules.proofs.Kept.Erasing.{Fit, fit-blocks}
 use Rattle.rules.proofs.Kept.Calls.{course-fit}
 use Rattle.rules.proofs.Kept.Sweeps.{bare}
 use Rattle.rules.proofs.Noninterference.Twins.{Twin, ask-same, told}
 use Rattle.rules.proofs.Kept.Views.{Alike, alike-changed, weight}
-use Rattle.rules.proofs.Writes.{Ready, opened-record, written-record}
 
 -- ---- What a change of a block's record makes of a holding: it looks at neither holder nor P/E count.
 
@@ -49,7 +49,7 @@ closed-seen state.Free holder written left erases serial entries = refl
 closed-seen (state.Open way) holder written left erases serial entries = refl
 closed-seen (state.Closed way) holder written left erases serial entries = refl
 
-abbrev pub writtenHolding : List ℕ → ℕ → Holding → Holding
+abbrev writtenHolding : List ℕ → ℕ → Holding → Holding
 writtenHolding users capacity h =
     seenOf (writtenOn (adus (length users)) (adus capacity) (bare h)) (overwritten (h .written) users (h .entries))
 
@@ -64,26 +64,24 @@ written-seen (state.Open way) holder written left erases serial users entries ca
 written-seen (state.Closed way) holder written left erases serial users entries capacity = refl
 
 -- A closed block, a written one and an opened one as their domain sees them.
-close-holding : (v : Drive) (d n : ℕ) (p : 1 ≤ d) (l : n < size (v .table)) (whole : size (v .table) ≤ length (v .table .blocks))
-    (held : heldBy d (blockAt (v .table) n) ≡ true)
+close-holding : {d n : ℕ} {v : Drive} → HeldBlock d n v
     → holdingAt (record { table = closedAt n (v .table); store = v .store }) n ≡ closedHolding (holdingAt v n)
 unfolding entriesOf
-close-holding v d n p l whole held =
+close-holding {d} {n} {v} h =
     let b = blockAt (v .table) n in
-    rw (closed-found v d n p l whole held)
+    rw (closed-found h)
     (closed-seen (b .state) (b .holder) (b .written) (b .left) (b .erases) (b .serial) (entriesOf v n))
 
-pub fill-holding : (c : Config) (d n : ℕ) (users : List ℕ) (v : Drive) (r : Ready c v) (l : n < c .blocks)
-    (fits : blockAt (v .table) n .written .0 + length users ≤ adusPerBlock c .0)
-    → holdingAt (writtenInto d n users v .drive) n ≡ writtenHolding users (adusPerBlock c .0) (holdingAt v n)
-fill-holding c d n users v r l fits =
+fill-holding : {d n : ℕ} {users : List ℕ} {v : Drive} → Writable d n users v
+    → holdingAt (writtenInto d n users v .drive) n ≡ writtenHolding users (adusPerBlock (v .table .config) .0) (holdingAt v n)
+fill-holding {d} {n} {users} {v} x =
     let b = blockAt (v .table) n in
-    ap₂ (λ (x : Block) (es : List ℕ). seenOf x es)
-    (written-record c d n users v r l fits ∙ ap (λ (x : Config). writtenOn (adus (length users)) (adusPerBlock x) b) (r .shape))
-    (entries-written c d n users v r l fits)
-    ∙ (written-seen (b .state) (b .holder) (b .written) (b .left) (b .erases) (b .serial) users (entriesOf v n) (adusPerBlock c .0))
+    ap₂ (λ (y : Block) (es : List ℕ). seenOf y es)
+    (written-record x)
+    (entries-written (v .table .config) d n users v (x .ready) (x .inside) (x .fits))
+    ∙ (written-seen (b .state) (b .holder) (b .written) (b .left) (b .erases) (b .serial) users (entriesOf v n) (adusPerBlock (v .table .config) .0))
 
-abbrev pub freshHolding : Config → Way → ℕ → Holding
+abbrev freshHolding : Config → Way → ℕ → Holding
 freshHolding c way serial = record {
   serial = serial;
   state = state.Open way;
@@ -92,9 +90,43 @@ freshHolding c way serial = record {
   entries = replicate (adusPerBlock c .0) allOnes;
 }
 
-pub open-holding : (c : Config) (d : ℕ) (way : Way) (n : ℕ) (v : Drive) (r : Ready c v) (l : n < c .blocks)
-    → holdingAt (openedFor d way n v) n ≡ freshHolding c way (nextSerial (v .table) d)
-open-holding c d way n v r l = rw (opened-record c d way n v r l, entries-opened c d way n v r l, r .shape)
+open-holding : {d n : ℕ} {v : Drive} → Openable d n v → (way : Way)
+    → holdingAt (openedFor d way n v) n ≡ freshHolding (v .table .config) way (nextSerial (v .table) d)
+open-holding {d} {n} {v} o way =
+    rw (opened-record o way, entries-opened (v .table .config) d way n v (o .ready) (o .inside))
+
+-- ---- The same is done to two blocks with one holding, or to two that nobody holds
+
+module _ {a n m : ℕ} {users : List ℕ} {v w : Drive} (s : Alike a v w) (x : Writable a n users v) (y : Writable a m users w)
+    (same : holdingAt v n ≡ holdingAt w m) where
+  pub written-same : holdingAt (writtenInto a n users v .drive) n ≡ holdingAt (writtenInto a m users w .drive) m
+  written-same =
+      fill-holding x
+      ∙ ap₂ (λ (c : Config) (h : Holding). writtenHolding users (adusPerBlock c .0) h) (s .config) same
+      ∙ sym (fill-holding y)
+
+  pub written-alike : Alike a (writtenInto a n users v .drive) (writtenInto a m users w .drive)
+  written-alike =
+      alike-changed s (written-changed x) (written-changed y)
+      (λ q. rw (x .held, y .held) (ap q same))
+      (λ q. rw (written-held x, written-held y) (ap q written-same))
+      (ap (λ (rs : List Domain). getD rs (a - 1) clearDomain) (written-domains x)
+      ∙ s .domain
+      ∙ sym (ap (λ (rs : List Domain). getD rs (a - 1) clearDomain) (written-domains y)))
+
+module _ {a n m : ℕ} {v w : Drive} (s : Alike a v w) (x : Openable a n v) (y : Openable a m w) (way : Way) where
+  pub opened-same : holdingAt (openedFor a way n v) n ≡ holdingAt (openedFor a way m w) m
+  opened-same =
+      open-holding x way
+      ∙ ap₂ (λ (c : Config) (r : Domain). freshHolding c way (r .last + 1)) (s .config) (s .domain)
+      ∙ sym (open-holding y way)
+
+  pub opened-alike : Alike a (openedFor a way n v) (openedFor a way m w)
+  opened-alike =
+      alike-changed s (opened-changed x way) (opened-changed y way)
+      (λ q. rw (not-held x way, not-held y way))
+      (λ q. rw (opened-held x way, opened-held y way) (ap q opened-same))
+      (opened-domain x way ∙ ap (λ (r : Domain). withLast (r .last + 1) r) (s .domain) ∙ sym (opened-domain y way))
 
 -- An answer of one block number, by serial, with nothing filled.
 abbrev pub blockTold : ℕ → Observation
@@ -120,33 +152,37 @@ module _ {a : ℕ} {v w : Drive} (p : Pair a v w) (lent : Lengths) where
         ask-same _ _ _ _ _ (own-same p n m same e6) (λ e9. refl)))))
 
     module _ (inside : isBlock (v .table .config) n ≡ true) (own : heldBy a (blockAt (v .table) n) ≡ true) where
-      here : n < size (v .table)
-      here = ltb-true n (size (v .table)) inside
+      one-block : HeldBlock a n v
+      one-block = record {
+        low = p .low;
+        inside = ltb-true n (size (v .table)) inside;
+        whole = fit-blocks fit-left;
+        held = own;
+      }
 
-      there : m < size (w .table)
-      there = ltb-true m (size (w .table)) (inside-other p n m same inside)
-
-      own-there : heldBy a (blockAt (w .table) m) ≡ true
-      own-there = own-other p n m same inside own
+      other-block : HeldBlock a m w
+      other-block = record {
+        low = p .low;
+        inside = ltb-true m (size (w .table)) (inside-other p n m same inside);
+        whole = fit-blocks fit-right;
+        held = own-other p n m same inside own;
+      }
 
       old-weights : (q : Holding → ℕ) → weight q a v n ≡ weight q a w m
-      old-weights q = rw (own, own-there) (ap q (holding-same p n m same inside own))
+      old-weights q = rw (own, other-block .held) (ap q (holding-same p n m same inside own))
 
       closed-same : holdingAt (effect (Close a n) v .drive) n ≡ holdingAt (effect (Close a m) w .drive) m
       unfolding effect
       closed-same =
-          close-holding v a n (p .low) here (fit-blocks fit-left) own
+          close-holding one-block
           ∙ ap (λ (h : Holding). closedHolding h) (holding-same p n m same inside own)
-          ∙ sym (close-holding w a m (p .low) there (fit-blocks fit-right) own-there)
+          ∙ sym (close-holding other-block)
 
       closed-alike : Alike a (effect (Close a n) v .drive) (effect (Close a m) w .drive)
       unfolding effect
       closed-alike =
-          let c = closed-changed v a n (p .low) here (fit-blocks fit-left) own in
-          let d = closed-changed w a m (p .low) there (fit-blocks fit-right) own-there in
-          alike-changed (p .alike) c d old-weights
-          (λ q. rw (closed-held v a n (p .low) here (fit-blocks fit-left) own, closed-held w a m (p .low) there (fit-blocks fit-right) own-there)
-          (ap q closed-same))
+          alike-changed (p .alike) (closed-changed one-block) (closed-changed other-block) old-weights
+          (λ q. rw (closed-held one-block, closed-held other-block) (ap q closed-same))
           (p .alike .domain)
 
       closed-told : (bytes other : List ℕ) → bytes ≡ [] → other ≡ [] → told v (Close a n) bytes ≡ told w (Close a m) other
@@ -156,14 +192,8 @@ module _ {a : ℕ} {v w : Drive} (p : Pair a v w) (lent : Lengths) where
       pub freed-alike : Alike a (effect (Free a n) v .drive) (effect (Free a m) w .drive)
       unfolding effect
       freed-alike =
-          alike-changed (p .alike)
-          (freed-changed v a n (p .low) here (fit-blocks fit-left) own)
-          (freed-changed w a m (p .low) there (fit-blocks fit-right) own-there)
-          old-weights
-          (λ q. rw (
-            freed-not-held v a n (p .low) here (fit-blocks fit-left) own,
-            freed-not-held w a m (p .low) there (fit-blocks fit-right) own-there,
-          ))
+          alike-changed (p .alike) (freed-changed one-block) (freed-changed other-block) old-weights
+          (λ q. rw (freed-not-held one-block, freed-not-held other-block))
           (p .alike .domain)
 
       freed-told : (bytes other : List ℕ) → bytes ≡ [] → other ≡ [] → told v (Free a n) bytes ≡ told w (Free a m) other

@@ -1,5 +1,5 @@
 -- The same Erase in two drives that the domain cannot tell apart: of FFFFFFFFh, or of a block that it holds.
-use Prim.Native.Nat.{ℕ, _+_, _≤_}
+use Prim.Native.Nat.{ℕ, _≤_}
 use mathlib.Core.Bool.{Bool, true, false, _||_, cond}
 use mathlib.Core.List.{List, [], _∷_, map}
 use mathlib.Core.Option.{some}
@@ -9,52 +9,24 @@ use lib.Dec.{eqb}
 use borrow.Author.Tests.{eq-eqb, eqb-true, ltb-true, ne-eqb}
 use Rattle.geometry.proofs.Laws.Shape.{by-test, limits}
 use Rattle.geometry.specs.Address.{isBlock}
-use Rattle.geometry.specs.declared.shape.Config.{Config}
 use Rattle.model.specs.declared.block.Way.the-variants as way
 use Rattle.model.specs.declared.command.Command.the-variants.{Erase}
-use Rattle.model.specs.declared.table.Domain.{Domain}
 use Rattle.model.specs.declared.table.Table.{Table}
-use Rattle.rules.specs.Blocks.{anyBlock, chosenBlock, erasedBlock, freedAt, openedFor, withLast}
+use Rattle.rules.specs.Blocks.{anyBlock, chosenBlock, erasedBlock, freedAt, openedFor}
 use Rattle.rules.specs.Counting.{implies}
 use Rattle.rules.specs.Drive.{Drive, blockAt, heldBy, isClosed, isClosedState, isFree, size}
 use Rattle.rules.specs.Effects.{Effect, effect, verdict}
 use Rattle.rules.specs.Noninterference.{erasesOwn}
 use Rattle.rules.specs.Observation.{Bytes, Holding, Observation, Words, holdingAt, nameOf, serialAt}
 use Rattle.rules.specs.Questions.{Lengths, coveredAfter, isErasable, isErasedAgain, mayErase, newOfErase, questions, withinQuota}
-use Rattle.rules.proofs.Noninterference.Blocks.{blockTold, freed-alike, freshHolding, open-holding}
-use Rattle.rules.proofs.Kept.Changes.{opened-domain, opened-held}
+use Rattle.rules.proofs.Kept.Fit.{Fit}
+use Rattle.rules.proofs.Noninterference.Blocks.{blockTold, freed-alike, opened-alike, opened-same}
 use Rattle.rules.proofs.Noninterference.Common.{Pair, covered-same, exists-same, fits-same, holding-same, inside-other, inside-same, may-open-same, number-same, own-other, quota-same, serials-same, sound-same}
-use Rattle.rules.proofs.Kept.Erasing.{Fit, Opens, again-is, again-opens, any-opens, opens-changed}
+use Rattle.rules.proofs.Kept.Erasing.{again-is, again-opens, any-opens}
 use Rattle.rules.proofs.Questions.{answered-yes}
 use Rattle.rules.proofs.Kept.Calls.{course-fit}
 use Rattle.rules.proofs.Noninterference.Twins.{Twin, ask-same}
-use Rattle.rules.proofs.Kept.Views.{Alike, alike-changed}
-
--- ---- Two blocks that nobody holds are opened
-
-not-held : (a : ℕ) (v : Drive) (n : ℕ) → Opens a n v → heldBy a (blockAt (v .table) n) ≡ false
-not-held a v n o = rw (o .nobody) (ne-eqb 0 a (λ e. absurd (omega (arith, o .low, e))))
-
-opened-same : {a n m : ℕ} {v w : Drive} → Alike a v w → Opens a n v → Opens a m w
-    → holdingAt (openedFor a way.Erase n v) n ≡ holdingAt (openedFor a way.Erase m w) m
-opened-same {a} {n} {m} {v} {w} s x y =
-    open-holding (v .table .config) a way.Erase n v (x .ready) (x .inside)
-    ∙ ap₂ (λ (c : Config) (r : Domain). freshHolding c way.Erase (r .last + 1)) (s .config) (s .domain)
-    ∙ sym (open-holding (w .table .config) a way.Erase m w (y .ready) (y .inside))
-
-opened-alike : {a n m : ℕ} {v w : Drive} → Alike a v w → Opens a n v → Opens a m w
-    → Alike a (openedFor a way.Erase n v) (openedFor a way.Erase m w)
-opened-alike {a} {n} {m} {v} {w} s x y =
-    alike-changed s (opens-changed x) (opens-changed y)
-    (λ q. rw (not-held a v n x, not-held a w m y))
-    (λ q. rw (
-      opened-held v a n way.Erase (x .low) (x .high) (x .ready) (x .inside) (x .domains) (x .nobody),
-      opened-held w a m way.Erase (y .low) (y .high) (y .ready) (y .inside) (y .domains) (y .nobody),
-    )
-    (ap q (opened-same s x y)))
-    (opened-domain v a n way.Erase (x .low) (x .high) (x .ready) (x .inside) (x .domains) (x .nobody)
-    ∙ ap (λ (r : Domain). withLast (r .last + 1) r) (s .domain)
-    ∙ sym (opened-domain w a m way.Erase (y .low) (y .high) (y .ready) (y .inside) (y .domains) (y .nobody)))
+use Rattle.rules.proofs.Kept.Views.{Alike}
 
 -- What an effect that opens a block is told as.
 abbrev toldOf : Effect → List ℕ → Observation
@@ -209,7 +181,7 @@ module _ {a : ℕ} {v w : Drive} (p : Pair a v w) (lent : Lengths) (n m : ℕ) (
         let y = any-opens w lent fit-right a m f at' in
         subst (λ (z : Effect). Opened z (effect (Erase a m) w)) (sym (erase-opens v n (x .0) (erased-any t n (x .0) at (x .1))))
         (subst (Opened (opensBlock v (x .0))) (sym (erase-opens w m (y .0) (erased-any u m (y .0) at' (y .1))))
-        (opened-effects (x .0) (y .0) (opened-alike (p .alike) (x .2) (y .2)) (opened-same (p .alike) (x .2) (y .2))))
+        (opened-effects (x .0) (y .0) (opened-alike (p .alike) (x .2 .block) (y .2 .block) way.Erase) (opened-same (p .alike) (x .2 .block) (y .2 .block) way.Erase)))
 
     named-opened : isBlock (t .config) n ≡ true → Opened (effect (Erase a n) v) (effect (Erase a m) w)
     named-opened inside =
@@ -225,9 +197,9 @@ module _ {a : ℕ} {v w : Drive} (p : Pair a v w) (lent : Lengths) (n m : ℕ) (
         (subst (Opened (opensBlock v n)) (sym (erase-opens w m m (erased-named w m few-right inside')))
         (opened-effects n m
         (subst (λ (z : Drive). Alike a z (openedFor a way.Erase m w)) i
-        (subst (λ (z : Drive). Alike a (openedFor a way.Erase n (freeing v n)) z) j (opened-alike freed x y)))
+        (subst (λ (z : Drive). Alike a (openedFor a way.Erase n (freeing v n)) z) j (opened-alike freed (x .block) (y .block) way.Erase)))
         (subst (λ (z : Drive). holdingAt z n ≡ holdingAt (openedFor a way.Erase m w) m) i
-        (subst (λ (z : Drive). holdingAt (openedFor a way.Erase n (freeing v n)) n ≡ holdingAt z m) j (opened-same freed x y)))))
+        (subst (λ (z : Drive). holdingAt (openedFor a way.Erase n (freeing v n)) n ≡ holdingAt z m) j (opened-same freed (x .block) (y .block) way.Erase)))))
 
     erase-opened : Opened (effect (Erase a n) v) (effect (Erase a m) w)
     unfolding questions

@@ -1,10 +1,10 @@
 -- The same Write by block in two drives that the domain cannot tell apart.
-use Prim.Native.Nat.{ℕ, _+_, _-_, _≤_, _<_}
+use Prim.Native.Nat.{ℕ, _+_}
 use mathlib.Core.Bool.{Bool, true, _&&_}
 use mathlib.Core.List.{List, [], map}
 use mathlib.Core.Path.{_≡_, refl, sym, ap, ap₂, _∙_, subst}
 use lib.Dec.{leb}
-use lib.ListN.{getD, length}
+use lib.ListN.{length}
 use borrow.Author.Tests.{lt-ltb}
 use Rattle.geometry.proofs.Laws.Shape.{both, limits}
 use Rattle.geometry.specs.Address.{isBlock}
@@ -13,67 +13,29 @@ use Rattle.geometry.specs.declared.address.FlashAddress.{FlashAddress}
 use Rattle.geometry.specs.declared.shape.Adus.{Adus}
 use Rattle.geometry.specs.declared.shape.Config.{Config}
 use Rattle.model.specs.declared.command.Command.the-variants.{WriteByBlock}
-use Rattle.model.specs.declared.table.Domain.{Domain}
 use Rattle.rules.specs.Blocks.{userAddresses, writtenInto}
-use Rattle.rules.specs.Drive.{Drive, blockAt, clearDomain, heldBy, isErasedState, size}
+use Rattle.rules.specs.Drive.{Drive, isErasedState, size}
 use Rattle.rules.specs.Effects.{effect, verdict}
 use Rattle.rules.specs.Observation.{Bytes, Holding, Observation, Words, holdingAt, nameOf, readAddress, serialAt}
 use Rattle.rules.specs.Questions.{Lengths, isCount, questions}
 use Rattle.rules.proofs.Noninterference.Addresses.{addressesAs, read-written}
 use Rattle.rules.proofs.Kept.Asked.{block-asked}
-use Rattle.rules.proofs.Noninterference.Blocks.{fill-holding, writtenHolding}
-use Rattle.rules.proofs.Kept.Changes.{written-changed, written-domains, written-held}
+use Rattle.rules.proofs.Noninterference.Blocks.{written-alike, written-same}
+use Rattle.rules.proofs.Kept.Changes.{Writable, written-ready}
 use Rattle.rules.proofs.Noninterference.Common.{Pair, exists-same, fits-same, holding-same, inside-same, own-same, sound-same}
 use Rattle.rules.proofs.Kept.Calls.{course-fit}
 use Rattle.rules.proofs.Noninterference.Twins.{Twin, ask-same, told}
-use Rattle.rules.proofs.Kept.Views.{Alike, alike-changed}
-use Rattle.rules.proofs.Writes.{Ready, written-ready}
+use Rattle.rules.proofs.Kept.Views.{Alike}
 
--- ---- The same user addresses go into two blocks with one holding
-
--- A block into which a domain may write.
-pub record Into (a n : ℕ) (users : List ℕ) (v : Drive) : Type 0 where
-  pub low : 1 ≤ a
-  pub ready : Ready (v .table .config) v
-  pub inside : n < size (v .table)
-  pub held : heldBy a (blockAt (v .table) n) ≡ true
-  pub fits : blockAt (v .table) n .written .0 + length users ≤ adusPerBlock (v .table .config) .0
-
-module _ {a n m : ℕ} {users : List ℕ} {v w : Drive} (s : Alike a v w) (x : Into a n users v) (y : Into a m users w)
+-- The flash addresses of the same user addresses in two blocks with one holding.
+module _ {a n m : ℕ} {users : List ℕ} {v w : Drive} (s : Alike a v w) (x : Writable a n users v) (y : Writable a m users w)
     (same : holdingAt v n ≡ holdingAt w m) where
-  abbrev left : Drive
-  left = writtenInto a n users v .drive
-
-  abbrev right : Drive
-  right = writtenInto a m users w .drive
-
-  pub into-same : holdingAt left n ≡ holdingAt right m
-  into-same =
-      fill-holding (v .table .config) a n users v (x .ready) (x .inside) (x .fits)
-      ∙ ap₂ (λ (c : Config) (h : Holding). writtenHolding users (adusPerBlock c .0) h) (s .config) same
-      ∙ sym (fill-holding (w .table .config) a m users w (y .ready) (y .inside) (y .fits))
-
-  pub into-alike : Alike a left right
-  into-alike =
-      alike-changed s
-      (written-changed v a n users (x .low) (x .ready) (x .inside) (x .held) (x .fits))
-      (written-changed w a m users (y .low) (y .ready) (y .inside) (y .held) (y .fits))
-      (λ q. rw (x .held, y .held) (ap q same))
-      (λ q. rw (
-        written-held v a n users (x .low) (x .ready) (x .inside) (x .held) (x .fits),
-        written-held w a m users (y .low) (y .ready) (y .inside) (y .held) (y .fits),
-      )
-      (ap q into-same))
-      (ap (λ (rs : List Domain). getD rs (a - 1) clearDomain) (written-domains v a n users (x .low) (x .ready) (x .inside) (x .held) (x .fits))
-      ∙ s .domain
-      ∙ sym (ap (λ (rs : List Domain). getD rs (a - 1) clearDomain) (written-domains w a m users (y .low) (y .ready) (y .inside) (y .held) (y .fits))))
-
   -- The addresses read the same in any later drives of the same shape in which the two blocks have one serial.
-  pub into-read : (u z : Drive) → withinLimits (v .table .config) ≡ true
+  pub written-read : (u z : Drive) → withinLimits (v .table .config) ≡ true
       → u .table .config ≡ v .table .config → z .table .config ≡ w .table .config
       → serialAt u n ≡ serialAt z m
       → map (readAddress u) (writtenInto a n users v .addresses) ≡ map (readAddress z) (writtenInto a m users w .addresses)
-  into-read u z within shape shape' serials =
+  written-read u z within shape shape' serials =
       read-written (v .table .config) (limits (v .table .config) within) u v a n users shape refl (x .inside) (x .fits)
       ∙ ap₂ (λ (k : ℕ) (h : Holding). addressesAs a k (h .written) (length users)) serials same
       ∙ sym (read-written (w .table .config) (limits (w .table .config) (subst (λ (c : Config). withinLimits c ≡ true) (s .config) within))
@@ -107,22 +69,18 @@ module _ {a : ℕ} {v w : Drive} (p : Pair a v w) (lent : Lengths) (n m start : 
   users = userAddresses start (count .0)
 
   module _ (e : verdict v lent (WriteByBlock a n start count) ≡ 0) (f : verdict w lent (WriteByBlock a m start count) ≡ 0) where
-    into-left : Into a n users v
-    into-left =
-        let x = block-asked v lent (course-fit (p .left) lent) a n start count e in
-        record { low = x .low; ready = x .ready; inside = x .inside; held = x .held; fits = x .fits }
+    left : Writable a n users v
+    left = block-asked v lent (course-fit (p .left) lent) a n start count e
 
-    into-right : Into a m users w
-    into-right =
-        let x = block-asked w lent (course-fit (p .right) lent) a m start count f in
-        record { low = x .low; ready = x .ready; inside = x .inside; held = x .held; fits = x .fits }
+    right : Writable a m users w
+    right = block-asked w lent (course-fit (p .right) lent) a m start count f
 
     one-holding : holdingAt v n ≡ holdingAt w m
-    one-holding = holding-same p n m same (lt-ltb n (size (v .table)) (into-left .inside)) (into-left .held)
+    one-holding = holding-same p n m same (lt-ltb n (size (v .table)) (left .inside)) (left .held)
 
     block-alike : Alike a (effect (WriteByBlock a n start count) v .drive) (effect (WriteByBlock a m start count) w .drive)
     unfolding effect
-    block-alike = into-alike (p .alike) into-left into-right one-holding
+    block-alike = written-alike (p .alike) left right one-holding
 
     block-told : (bytes other : List ℕ) → bytes ≡ [] → other ≡ []
         → told v (WriteByBlock a n start count) bytes ≡ told w (WriteByBlock a m start count) other
@@ -130,10 +88,10 @@ module _ {a : ℕ} {v w : Drive} (p : Pair a v w) (lent : Lengths) (n m start : 
     block-told bytes other b o =
         rw (b, o)
         (ap (λ (l : List FlashAddress). addressesTold l)
-        (into-read (p .alike) into-left into-right one-holding (writtenInto a n users v .drive) (writtenInto a m users w .drive) (p .left .facts .limits)
-        (written-ready (v .table .config) a n users v (into-left .ready) (into-left .inside) (into-left .fits) .shape)
-        (written-ready (w .table .config) a m users w (into-right .ready) (into-right .inside) (into-right .fits) .shape)
-        (ap (λ (h : Holding). h .serial) (into-same (p .alike) into-left into-right one-holding))))
+        (written-read (p .alike) left right one-holding (writtenInto a n users v .drive) (writtenInto a m users w .drive) (p .left .facts .limits)
+        (written-ready left .shape)
+        (written-ready right .shape)
+        (ap (λ (h : Holding). h .serial) (written-same (p .alike) left right one-holding))))
 
   pub write-block-twin : Twin a v w lent (WriteByBlock a n start count) (WriteByBlock a m start count)
   write-block-twin = record {

@@ -1,13 +1,13 @@
 -- The same Write by placement in two drives that the domain cannot tell apart.
 use Prim.Native.Nat.{ℕ, zero, suc, _+_, _-_, _/_, _≤_, _<_}
-use mathlib.Core.Bool.{true, false, true≢false, _&&_}
+use mathlib.Core.Bool.{true, true≢false, _&&_}
 use mathlib.Core.List.{List, [], _++_, map}
 use mathlib.Core.Option.{Option, none, some}
 use mathlib.Core.Path.{_≡_, refl, sym, ap, ap₂, _∙_, subst}
 use native.Mathlib.Omega.{arith}
 use lib.Dec.{ltb}
 use lib.ListN.{drop, length, take}
-use borrow.Author.Tests.{eqb-true, ne-eqb}
+use borrow.Author.Tests.{eqb-true}
 use Rattle.geometry.proofs.Laws.Shape.{limits}
 use Rattle.geometry.specs.Shape.{adusPerBlock, withinLimits}
 use Rattle.geometry.specs.declared.address.FlashAddress.{FlashAddress}
@@ -17,25 +17,25 @@ use Rattle.model.specs.declared.block.Block.{Block}
 use Rattle.model.specs.declared.block.Way.the-variants.{Placement}
 use Rattle.model.specs.declared.command.Command.the-variants.{WriteByPlacement}
 use Rattle.model.specs.declared.table.Domain.{Domain}
-use Rattle.rules.specs.Blocks.{Written, chosenBlock, newBlocks, openedFor, roomIn, userAddresses, withLast, writtenByPlacement, writtenInto, writtenOnwards}
+use Rattle.rules.specs.Blocks.{Written, chosenBlock, newBlocks, openedFor, roomIn, userAddresses, writtenByPlacement, writtenInto, writtenOnwards}
 use Rattle.rules.specs.Drive.{Drive, blockAt, heldBy, isOpenFor, isPlacedState, openBlock, size}
 use Rattle.rules.specs.Effects.{effect, verdict}
 use Rattle.rules.specs.Observation.{Holding, Holds, holdingAt, readAddress, serialAt}
 use Rattle.rules.specs.Questions.{Lengths, coveredAfter, isCount, mayOpenFor, questions, serialsLeft, withinQuota}
 use Rattle.rules.proofs.Noninterference.Addresses.{map-append}
 use Rattle.rules.proofs.Kept.Asked.{placement-asked}
-use Rattle.rules.proofs.Noninterference.Blocks.{freshHolding, open-holding}
-use Rattle.rules.proofs.Kept.Changes.{opened-domain, written-changed, written-held}
+use Rattle.rules.proofs.Noninterference.Blocks.{opened-alike, opened-same, written-alike, written-same}
+use Rattle.rules.proofs.Kept.Changes.{Writable, opened-changed, written-changed, written-held}
 use Rattle.rules.proofs.Noninterference.Common.{Pair, covered-same, exists-same, fits-same, may-open-same, quota-same, serials-same, sound-same}
 use Rattle.rules.proofs.Counting.{by-eq, sum-two}
 use Rattle.rules.proofs.Kept.Facts.{Facts}
 use Rattle.rules.proofs.Noninterference.Pairing.{partner}
-use Rattle.rules.proofs.Kept.Onwards.{Onward, OpenTo, fill-changed, fill-config, inside, inside-opening, next-block, next-onward, nobody, onward-sequel, open-changed, open-fits, open-held, open-own, open-to}
+use Rattle.rules.proofs.Kept.Onwards.{Onward, OpenTo, fill-config, next-block, next-onward, next-openable, next-writable, onward-sequel, open-to}
 use Rattle.rules.proofs.Kept.Calls.{course-fit}
 use Rattle.rules.proofs.Noninterference.Twins.{Twin, ask-same, told}
-use Rattle.rules.proofs.Kept.Views.{Alike, alike-back, alike-changed, ifPlaced, view, weight}
-use Rattle.rules.proofs.Kept.Placement.{Asked, firstOf, fits, is-open, newFor, none-onward, placement-is, restOf, some-onward}
-use Rattle.rules.proofs.Noninterference.WriteByBlock.{Into, addressesTold, into-alike, into-read, into-same}
+use Rattle.rules.proofs.Kept.Views.{Alike, alike-back, ifPlaced, view, weight}
+use Rattle.rules.proofs.Kept.Placement.{Asked, first-writable, firstOf, newFor, none-onward, placement-is, restOf, some-onward}
+use Rattle.rules.proofs.Noninterference.WriteByBlock.{addressesTold, written-read}
 use Rattle.rules.proofs.Writes.{Ready, onwards-some, onwards-zero}
 
 -- ---- The next block in both
@@ -54,43 +54,18 @@ module _ {a p k : ℕ} {users : List ℕ} {v w : Drive} (s : Alike a v w) (x : O
   abbrev opening' : Drive
   opening' = openedFor a (Placement p) m w
 
-  opened-same : holdingAt opening n ≡ holdingAt opening' m
-  opened-same =
-      open-holding (v .table .config) a (Placement p) n v (x .ready) (inside x n chosen)
-      ∙ ap₂ (λ (e : Config) (r : Domain). freshHolding e (Placement p) (r .last + 1)) (s .config) (s .domain)
-      ∙ sym (open-holding (w .table .config) a (Placement p) m w (y .ready) (inside y m chosen'))
+  same-opened : holdingAt opening n ≡ holdingAt opening' m
+  same-opened = opened-same s (next-openable x n chosen) (next-openable y m chosen') (Placement p)
 
-  nobodys : (u : Drive) (i : ℕ) → blockAt (u .table) i .holder ≡ 0 → heldBy a (blockAt (u .table) i) ≡ false
-  nobodys u i e = rw e (ne-eqb 0 a (λ z. absurd (omega (arith, x .low, z))))
+  alike-opened : Alike a opening opening'
+  alike-opened = opened-alike s (next-openable x n chosen) (next-openable y m chosen') (Placement p)
 
-  opened-alike : Alike a opening opening'
-  opened-alike =
-      alike-changed s (open-changed x n chosen) (open-changed y m chosen')
-      (λ q. rw (nobodys v n (nobody x n chosen), nobodys w m (nobody y m chosen')))
-      (λ q. rw (open-held x n chosen, open-held y m chosen') (ap q opened-same))
-      (opened-domain v a n (Placement p) (x .low) (x .high) (x .ready) (inside x n chosen) (x .domains) (nobody x n chosen)
-      ∙ ap (λ (r : Domain). withLast (r .last + 1) r) (s .domain)
-      ∙ sym (opened-domain w a m (Placement p) (y .low) (y .high) (y .ready) (inside y m chosen') (y .domains) (nobody y m chosen')))
+  next-left : Writable a n these opening
+  next-left = next-writable x n chosen
 
-  next-left : Into a n these opening
-  next-left = record {
-    low = x .low;
-    ready = open-own x n chosen;
-    inside = inside-opening x n chosen;
-    held = open-held x n chosen;
-    fits = open-fits x n chosen;
-  }
-
-  next-right : Into a m these opening'
+  next-right : Writable a m these opening'
   next-right =
-      subst (λ (e : Config). Into a m (take (adusPerBlock e .0) users) opening') (sym (s .config))
-      (record {
-        low = y .low;
-        ready = open-own y m chosen';
-        inside = inside-opening y m chosen';
-        held = open-held y m chosen';
-        fits = open-fits y m chosen';
-      })
+      subst (λ (e : Config). Writable a m (take (adusPerBlock e .0) users) opening') (sym (s .config)) (next-writable y m chosen')
 
   abbrev filling : Drive
   filling = writtenInto a n these opening .drive
@@ -99,10 +74,10 @@ module _ {a p k : ℕ} {users : List ℕ} {v w : Drive} (s : Alike a v w) (x : O
   filling' = writtenInto a m these opening' .drive
 
   filled-alike : Alike a filling filling'
-  filled-alike = into-alike opened-alike next-left next-right opened-same
+  filled-alike = written-alike alike-opened next-left next-right same-opened
 
   filled-same : holdingAt filling n ≡ holdingAt filling' m
-  filled-same = into-same opened-alike next-left next-right opened-same
+  filled-same = written-same alike-opened next-left next-right same-opened
 
   onward-left : Onward a p k (drop (adusPerBlock c .0) users) filling
   onward-left = next-onward x n chosen
@@ -116,8 +91,8 @@ module _ {a p k : ℕ} {users : List ℕ} {v w : Drive} (s : Alike a v w) (x : O
       → serialAt u n ≡ serialAt z m
       → map (readAddress u) (writtenInto a n these opening .addresses) ≡ map (readAddress z) (writtenInto a m these opening' .addresses)
   filled-read u z =
-      into-read opened-alike next-left next-right opened-same u z
-      (subst (λ (e : Config). withinLimits e ≡ true) (sym (open-changed x n chosen .config)) (x .facts .limits))
+      written-read alike-opened next-left next-right same-opened u z
+      (subst (λ (e : Config). withinLimits e ≡ true) (sym (opened-changed (next-openable x n chosen) (Placement p) .config)) (x .facts .limits))
 
 -- ---- Onwards in both
 
@@ -129,9 +104,9 @@ onward-serial a p zero users v o n h =
 onward-serial a p (suc k) users v o n h =
     let m = next-block o .0 in
     let chosen = next-block o .1 in
-    let apart : ¬ (n ≡ m) = λ same. held-nobody same (nobody o m chosen) in
-    let opened-block = open-changed o m chosen .blocks n apart in
-    let filled-block = fill-changed o m chosen .blocks n apart in
+    let apart : ¬ (n ≡ m) = λ same. held-nobody same (next-openable o m chosen .nobody) in
+    let opened-block = opened-changed (next-openable o m chosen) (Placement p) .blocks n apart in
+    let filled-block = written-changed (next-writable o m chosen) .blocks n apart in
     ap (λ (x : Written). serialAt (x .drive) n) (onwards-some (v .table .config) a p k m users v (o .ready) chosen)
     ∙ onward-serial a p k _ _ (next-onward o m chosen) n (
       subst (λ (e : Config). n < e .blocks) (sym (fill-config o m chosen)) (h .0),
@@ -149,14 +124,11 @@ record Same (a : ℕ) (x y : Written) : Type 0 where
   read : map (readAddress (x .drive)) (x .addresses) ≡ map (readAddress (y .drive)) (y .addresses)
 
 -- The drive after a write into a block: of the same shape, and the block is still held.
-into-config : {a n : ℕ} {users : List ℕ} {v : Drive} → Into a n users v → writtenInto a n users v .drive .table .config ≡ v .table .config
-into-config {a} {n} {users} {v} x = written-changed v a n users (x .low) (x .ready) (x .inside) (x .held) (x .fits) .config
+into-config : {a n : ℕ} {users : List ℕ} {v : Drive} → Writable a n users v → writtenInto a n users v .drive .table .config ≡ v .table .config
+into-config x = written-changed x .config
 
-into-holds : {a n : ℕ} {users : List ℕ} {v : Drive} → Into a n users v → Holds a (writtenInto a n users v .drive) n
-into-holds {a} {n} {users} {v} x = (
-  subst (λ (e : Config). n < e .blocks) (sym (into-config x)) (x .inside),
-  written-held v a n users (x .low) (x .ready) (x .inside) (x .held) (x .fits),
-)
+into-holds : {a n : ℕ} {users : List ℕ} {v : Drive} → Writable a n users v → Holds a (writtenInto a n users v .drive) n
+into-holds {a} {n} {users} {v} x = (subst (λ (e : Config). n < e .blocks) (sym (into-config x)) (x .inside), written-held x)
 
 abbrev join : Written → Written → Written
 join first rest = record { drive = rest .drive; addresses = first .addresses ++ rest .addresses }
@@ -336,29 +308,17 @@ module _ {a : ℕ} {v w : Drive} (p : Pair a v w) (k : ℕ) where
         abbrev first' : Written
         first' = firstOf a (some m) users w
 
-        left : Into a n (take (roomIn (v .table) (some n)) users) v
-        left = record {
-          low = p .low;
-          ready = asked .ready;
-          inside = is-open asked n at .0;
-          held = is-open asked n at .1;
-          fits = fits asked n at;
-        }
+        left : Writable a n (take (roomIn (v .table) (some n)) users) v
+        left = first-writable asked n at
 
-        right' : Into a m (take (roomIn (w .table) (some m)) users) w
-        right' = record {
-          low = p .low;
-          ready = asked' .ready;
-          inside = is-open asked' m at' .0;
-          held = is-open asked' m at' .1;
-          fits = fits asked' m at';
-        }
+        right' : Writable a m (take (roomIn (w .table) (some m)) users) w
+        right' = first-writable asked' m at'
 
         rooms : roomIn (w .table) (some m) ≡ roomIn (v .table) (some n)
         rooms = sym (room-from (some n) (some m) same)
 
-        right : Into a m (take (roomIn (v .table) (some n)) users) w
-        right = subst (λ (r : ℕ). Into a m (take r users) w) rooms right'
+        right : Writable a m (take (roomIn (v .table) (some n)) users) w
+        right = subst (λ (r : ℕ). Writable a m (take r users) w) rooms right'
 
         -- The second drive's first write, of as many user addresses as the first one's.
         abbrev second : Written
@@ -370,20 +330,20 @@ module _ {a : ℕ} {v w : Drive} (p : Pair a v w) (k : ℕ) where
         rest-same : Same a (restOf a k (some n) users v) (restOf a k (some m) users w)
         rest-same =
             onward-same a k users (news (some n) (some m) same) (sym rooms)
-            (subst (λ (z : Written). Alike a (first .drive) (z .drive)) second-is (into-alike (p .alike) left right same))
+            (subst (λ (z : Written). Alike a (first .drive) (z .drive)) second-is (written-alike (p .alike) left right same))
             (some-onward asked n at) (some-onward asked' m at')
 
         serials : serialAt (restOf a k (some n) users v .drive) n ≡ serialAt (restOf a k (some m) users w .drive) m
         serials =
             onward-serial a k _ _ (first .drive) (some-onward asked n at) n (into-holds left)
-            ∙ ap (λ (h : Holding). h .serial) (into-same (p .alike) left right same)
+            ∙ ap (λ (h : Holding). h .serial) (written-same (p .alike) left right same)
             ∙ ap (λ (z : Written). serialAt (z .drive) m) second-is
             ∙ sym (onward-serial a k _ _ (first' .drive) (some-onward asked' m at') m (into-holds right'))
 
         first-read : map (readAddress (restOf a k (some n) users v .drive)) (first .addresses)
             ≡ map (readAddress (restOf a k (some m) users w .drive)) (first' .addresses)
         first-read =
-            into-read (p .alike) left right same (restOf a k (some n) users v .drive) (restOf a k (some m) users w .drive)
+            written-read (p .alike) left right same (restOf a k (some n) users v .drive) (restOf a k (some m) users w .drive)
             (p .left .facts .limits)
             (onward-sequel a k _ _ (first .drive) (some-onward asked n at) .sequel .config ∙ into-config left)
             (onward-sequel a k _ _ (first' .drive) (some-onward asked' m at') .sequel .config ∙ into-config right')

@@ -1,0 +1,30 @@
+-- What a call finds of a drive, and what follows from it for the blocks that a command names.
+use Prim.Native.Nat.{_≤_}
+use mathlib.Core.Bool.{true}
+use mathlib.Core.Path.{_≡_, refl}
+use native.Mathlib.Omega.{arith}
+use lib.ListN.{length}
+use borrow.Author.Tests.{eqb-true}
+use Rattle.geometry.proofs.Laws.Shape.{limits}
+use Rattle.geometry.specs.Shape.{storeLength}
+use Rattle.rules.specs.Claims.{LentOwn, Shaped}
+use Rattle.rules.specs.Drive.{Drive, size}
+use Rattle.rules.specs.Questions.{Lengths, storeFits}
+use Rattle.rules.proofs.Kept.Facts.{Facts}
+use Rattle.rules.proofs.Writes.{Ready}
+
+-- A sound table with a record for each domain and block, and the drive's own store if it is lent a whole one.
+pub record Fit (v : Drive) (lent : Lengths) : Type 0 where
+  pub facts : Facts v
+  pub shaped : Shaped (v .table)
+  pub own : LentOwn v lent
+
+pub fit-blocks : {v : Drive} {lent : Lengths} → Fit v lent → size (v .table) ≤ length (v .table .blocks)
+fit-blocks {v} f = omega (arith, f .shaped .blocks, limits (v .table .config) (f .facts .limits) .ranges .blocks .most)
+
+pub fit-ready : {v : Drive} {lent : Lengths} → Fit v lent → storeFits (v .table) lent ≡ true → Ready (v .table .config) v
+fit-ready {v} {lent} f e = record {
+  shape = refl;
+  blocks = fit-blocks f;
+  store = f .own (eqb-true (lent .store) (storeLength (v .table .config) .0) e);
+}
