@@ -22,7 +22,7 @@ use Rattle.rules.specs.Drive.{Drive, blockAt, clearDomain, domainAt, eac
 use Rattle.rules.specs.Observation.{Holding, holdingAt}
 use Rattle.rules.specs.Soundness.{countsKept, eachPair, freeIsClear, holderExists, missingIsClear, openLimitKept, placementExists, placementsDiffer, quotaKept, sameHolder, samePlacement, serialGiven, serialsDiffer, sound}
 use Rattle.rules.proofs.Blocks.{Choice, choice}
-use Rattle.rules.proofs.Counting.{all-each, by-eq, each-all, sum-add, sum-le, sum-swap, sum-term, sum-two, sum-zero}
+use Rattle.rules.proofs.Counting.{all-each, by-eq, clash, each-all, sum-add, sum-le, sum-swap, sum-term, sum-two, sum-zero}
 use Rattle.rules.proofs.Kept.Facts.{BlockFacts, DomainFacts, Existing, Facts, FreeFacts, Owned, StateFacts}
 use Rattle.rules.proofs.Soundness.{Clauses, apart, together}
 use Rattle.rules.proofs.Kept.Views.{ifPlaced, ifSerial, view, weight}
@@ -43,10 +43,6 @@ implied a b h e = rw (e) at h
 by-not : (a : Bool) → ¬ (a ≡ true) → not a ≡ true
 by-not true h = absurd (h refl)
 by-not false h = refl
-
--- A test that fails does not pass.
-clash : {P : Type 0} (a : Bool) → a ≡ true → a ≡ false → P
-clash a e f = absurd (true≢false (sym e ∙ f))
 
 -- What lies between passes the test.
 in-between : (low high n : ℕ) → low ≤ n → n ≤ high → between low high n ≡ true
