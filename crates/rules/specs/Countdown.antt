@@ -10,7 +10,7 @@ use Rattle.rules.specs.Effects.{accepted}
 use Rattle.rules.specs.Questions.{Lengths}
 use Rattle.rules.specs.Runs.{Call, step}
 
--- The seconds of an accepted pulse.
+-- The seconds of a pulse; no other command has any.
 abbrev pub secondsOf : Command → ℕ
 secondsOf (Create d guarantee quota placements limit) = 0
 secondsOf (ChangeCapacity d guarantee quota) = 0
@@ -25,6 +25,7 @@ secondsOf (Page d n) = 0
 secondsOf (Listing d which) = 0
 secondsOf (Pulse seconds) = seconds
 
+-- Those of a call, if it is an accepted pulse.
 abbrev pub pulseOf : Drive → Call → ℕ
 pulseOf v k = cond (accepted v (k .lent) (k .command)) (secondsOf (k .command)) 0
 

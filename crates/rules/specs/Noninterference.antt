@@ -1,5 +1,5 @@
--- Demand 3, about whole lists of calls: what is asked of a domain, and what it is then promised. The claims themselves stand in
--- proofs/Claims.antt.
+-- Demand 3, about two whole lists of calls: what is asked of a domain A, and what it is then promised. The claim itself is the last
+-- of proofs/Claims.antt.
 use Prim.Native.Nat.{ℕ}
 use mathlib.Core.Bool.{Bool, true, false, not, _&&_}
 use mathlib.Core.List.{List, [], _∷_, map}
@@ -34,13 +34,13 @@ staysReserved a before after =
     let s = domainAt (after .table) a in
     implies (r .exists) (s .exists && eqb (s .reserved) (r .reserved) && eqb (s .quota) (r .quota))
 
--- A names only blocks that it holds. That is asked of Erase alone, for which a block that A does not hold may be Free or not; any
--- other command is refused alike whatever else it names.
+-- A names only blocks that it holds. That has to be asked of Erase alone, since a block that A does not hold may be Free or not; any
+-- other command is refused alike whichever such block it names.
 abbrev pub erasesOwn : ℕ → Drive → Command → Bool
-erasesOwn a v (Erase d n) = implies (eqb d a && isBlock (v .table .config) n) (heldBy a (blockAt (v .table) n))
 erasesOwn a v (Create d guarantee quota placements limit) = true
 erasesOwn a v (ChangeCapacity d guarantee quota) = true
 erasesOwn a v (Delete d) = true
+erasesOwn a v (Erase d n) = implies (eqb d a && isBlock (v .table .config) n) (heldBy a (blockAt (v .table) n))
 erasesOwn a v (Close d n) = true
 erasesOwn a v (Free d n) = true
 erasesOwn a v (WriteByPlacement d p start count) = true
@@ -50,6 +50,7 @@ erasesOwn a v (Page d n) = true
 erasesOwn a v (Listing d which) = true
 erasesOwn a v (Pulse seconds) = true
 
+-- So it is at every call of a list.
 unfoldable pub fullyReserved : ℕ → List Call → Drive → Bool
 fullyReserved a [] v = true
 fullyReserved a (k ∷ ks) v =

@@ -75,8 +75,8 @@ isPulse (Pulse seconds) = true
 abbrev pub concerns : ℕ → Command → Bool
 concerns a c = isPulse c || eqb (ownDomain c) a
 
--- A block that a command names: one that A holds is given by its serial, any other block of the drive is told from those by no
--- number, and a number that is no block's (FFFFFFFFh is one) stays as it is.
+-- A block that a command names: one that A holds is given by its serial; of any other block of the drive no more is said than that it
+-- is one; and a number that is no block's (FFFFFFFFh is one) stays a number.
 pub data Name : Type 0 where
   held : (serial : ℕ) → Name
   other : Name
@@ -119,7 +119,7 @@ requestOf a v (Page d n) = page (nameOf a v n)
 requestOf a v (Listing d which) = list which
 requestOf a v (Pulse seconds) = pulse seconds
 
--- 01: a place. The same kind, arguments and lent lengths.
+-- What A puts into the machine with a call (01: a place): kind, arguments and lent lengths.
 pub record Input : Type 0 where
   pub request : Request
   pub lent : Lengths
@@ -141,7 +141,8 @@ pub record Replies (v : Drive) (k : Call) (r : Reply) : Type 0 where
   pub fills-words : r .words ≡ wordsFilled v (k .lent) (k .command)
   pub fills-bytes : BytesFilled v (k .lent) (k .command) (r .bytes)
 
--- How a reply is read, by the kind of command.
+-- How a reply is read, by the kind of command: words and bytes as they are; the same for Free, whose block number is read before it; words
+-- as flash addresses (both writes); bytes as Super Block Information (Page); bytes as descriptors (List).
 pub data Reading : Type 0 where
   plainly : Reading
   freed : Reading
@@ -224,7 +225,7 @@ readDescriptors u (suc k) bytes = descriptorIn u (take 8 bytes) ∷ readDescript
 abbrev pub readList : Drive → List ℕ → List Descriptor
 readList u bytes = readDescriptors u (length bytes / 8) bytes
 
--- A List is read as the set of its descriptors: how often each stands there.
+-- A List is read as its set of descriptors: by how often each stands there.
 abbrev pub isDescriptor : Descriptor → Descriptor → Bool
 isDescriptor x y =
     eqb (x .serial) (y .serial) && eqb (x .mark) (y .mark) && eqb (x .byte6) (y .byte6) && eqb (x .byte7) (y .byte7)
