@@ -1,10 +1,10 @@
 -- The claims about every call and about whole lists of calls, over the rules alone. Nothing is proved here: each claim names its proof.
-use Prim.Native.Nat.{ℕ, _+_, _<_}
-use mathlib.Core.Bool.{true}
+use Prim.Native.Nat.{ℕ, _+_, _≤_, _<_}
+use mathlib.Core.Bool.{true, false}
 use mathlib.Core.List.{List}
 use mathlib.Core.Option.{some}
 use mathlib.Core.Path.{_≡_}
-use lib.Dec.{leb}
+use lib.Dec.{eqb, leb}
 use lib.ListN.{length, take}
 use Rattle.geometry.specs.Address.{isDomainId}
 use Rattle.geometry.specs.Shape.{storeLength, withinLimits}
@@ -18,14 +18,15 @@ use Rattle.rules.specs.Effects.{driveAfter, verdict, wordsFilled}
 use Rattle.rules.specs.Example.{NotEmpty}
 use Rattle.rules.specs.Claims.{Guaranteed, LentOwn, Shaped, StillSound}
 use Rattle.rules.specs.Countdown.{closesByPulse, elapsed}
-use Rattle.rules.specs.Noninterference.{Exchange, Indistinguishable, Replied, calls, fullyReserved, inputs}
+use Rattle.rules.specs.Noninterference.{Exchange, Indistinguishable, Replied, calls, fullyReserved, inputs, isAllowed, reservesAll}
 use Rattle.rules.specs.Questions.{Lengths}
-use Rattle.rules.specs.Runs.{Call, begun, reference, step}
+use Rattle.rules.specs.Runs.{Call, begun, ownDomain, reference, step}
 use Rattle.rules.specs.Soundness.{sound}
 use Rattle.rules.proofs.Countdown as countdowns
 use Rattle.rules.proofs.Example as example
 use Rattle.rules.proofs.Kept.Calls as kept
 use Rattle.rules.proofs.Noninterference.Moments as moments
+use Rattle.rules.proofs.Noninterference.Unasked.{unasked}
 
 -- ---- One call
 
@@ -98,6 +99,14 @@ guarantees c store ks within whole i = moments.guaranteed c within store (take i
 -- The hypotheses of what follows are met by lists in which the neighbours do all they can, and A's blocks have other numbers.
 pub not-empty : NotEmpty
 not-empty = example.not-empty
+
+-- What they ask is asked of A's own calls alone: a neighbour's call, and a pulse, is always allowed.
+pub neighbours-unasked : (a : ℕ) (k : Call) (v : Drive)
+    → 1 ≤ a
+    → eqb (ownDomain (k .command)) a ≡ false
+    → reservesAll a v ≡ true
+    → isAllowed a v k ≡ true
+neighbours-unasked a k v low foreign reserved = unasked a k v low foreign reserved
 
 -- Every list of calls has replies.
 pub always-replied : (ks : List Call) (v : Drive) → (xs : List Exchange) × (calls xs ≡ ks) × Replied xs v

@@ -13,5 +13,6 @@ pub mod WriteByPlacement
 pub mod Domains
 pub mod Reads
 pub mod Requests
+pub mod Unasked
 pub mod Lists
 pub mod Moments

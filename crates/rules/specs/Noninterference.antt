@@ -50,15 +50,14 @@ erasesOwn a v (Page d n) = true
 erasesOwn a v (Listing d which) = true
 erasesOwn a v (Pulse seconds) = true
 
--- So it is at every call of a list.
+-- All that is asked of a call, and of a list of calls. Of a neighbour's call it asks nothing: `neighbours-unasked` in proofs/Claims.antt.
+abbrev pub isAllowed : ℕ → Drive → Call → Bool
+isAllowed a v k =
+    notUncovered a v k && erasesOwn a v (k .command) && reservesAll a (step k v) && staysReserved a v (step k v)
+
 unfoldable pub fullyReserved : ℕ → List Call → Drive → Bool
 fullyReserved a [] v = true
-fullyReserved a (k ∷ ks) v =
-    notUncovered a v k
-    && erasesOwn a v (k .command)
-    && reservesAll a (step k v)
-    && staysReserved a v (step k v)
-    && fullyReserved a ks (step k v)
+fullyReserved a (k ∷ ks) v = isAllowed a v k && fullyReserved a ks (step k v)
 
 -- ---- Two lists
 

@@ -1,6 +1,6 @@
 -- Lists from the start of a configuration, and every moment of them.
 use Prim.Native.Nat.{ℕ, zero, suc, _≤_}
-use mathlib.Core.Bool.{Bool, true, true≢false, _&&_}
+use mathlib.Core.Bool.{true, true≢false}
 use mathlib.Core.List.{List, [], _∷_}
 use mathlib.Core.Path.{_≡_, refl, sym, ap, ap₂, _∙_, subst}
 use native.Mathlib.Omega.{arith}
@@ -12,7 +12,7 @@ use Rattle.geometry.specs.Shape.{storeLength, withinLimits}
 use Rattle.geometry.specs.declared.shape.Config.{Config}
 use Rattle.rules.specs.Drive.{Drive, blockAt, heldBy}
 use Rattle.rules.specs.Claims.{Guaranteed}
-use Rattle.rules.specs.Noninterference.{Exchange, Indistinguishable, Replied, calls, erasesOwn, fullyReserved, notUncovered, inputs, reservesAll, staysReserved}
+use Rattle.rules.specs.Noninterference.{Exchange, Indistinguishable, Replied, calls, fullyReserved, isAllowed, inputs, reservesAll}
 use Rattle.rules.specs.Observation.{Input, concerns, inputOf}
 use Rattle.rules.specs.Runs.{Call, begun, reference, step}
 use Rattle.rules.specs.Start.{emptyTable}
@@ -73,9 +73,7 @@ reserved-take a zero xs v e = refl
 reserved-take a (suc i) [] v e = refl
 reserved-take a (suc i) (x ∷ xs) v e =
     let k = x .call in
-    let here : Bool =
-    notUncovered a v k && erasesOwn a v (k .command) && reservesAll a (step k v) && staysReserved a v (step k v) in
-    let h = both here (fullyReserved a (calls xs) (step k v)) e in
+    let h = both (isAllowed a v k) (fullyReserved a (calls xs) (step k v)) e in
     rw (h .0, reserved-take a i xs (step k v) (h .1))
 
 -- The inputs of a beginning are the first of the list's inputs.
