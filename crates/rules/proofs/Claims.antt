@@ -13,11 +13,11 @@ use Rattle.geometry.specs.declared.shape.Config.{Config}
 use Rattle.model.specs.declared.command.Command.{Command}
 use Rattle.model.specs.declared.command.Command.the-variants.{Erase, Pulse, WriteByPlacement}
 use Rattle.rules.specs.Blocks.{anyBlock, chosenBlock, newBlocks}
+use Rattle.rules.specs.Claims.{Guaranteed, LentOwn, Shaped, StillSound}
+use Rattle.rules.specs.Countdown.{closesByPulse, elapsed}
 use Rattle.rules.specs.Drive.{Drive, blockAt, heldCount, isOpen, size}
 use Rattle.rules.specs.Effects.{driveAfter, verdict, wordsFilled}
 use Rattle.rules.specs.Example.{NotEmpty}
-use Rattle.rules.specs.Claims.{Guaranteed, LentOwn, Shaped, StillSound}
-use Rattle.rules.specs.Countdown.{closesByPulse, elapsed}
 use Rattle.rules.specs.Noninterference.{Exchange, Indistinguishable, Replied, calls, fullyReserved, inputs, isAllowed, reservesAll}
 use Rattle.rules.specs.Questions.{Lengths}
 use Rattle.rules.specs.Runs.{Call, begun, ownDomain, reference, step}

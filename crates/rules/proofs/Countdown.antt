@@ -23,16 +23,16 @@ use Rattle.model.specs.declared.command.Command.the-variants.{ChangeCapacity, C
 use Rattle.model.specs.declared.command.Command.the-variants.{WriteByBlock, WriteByPlacement}
 use Rattle.model.specs.declared.table.Table.{Table}
 use Rattle.rules.specs.Blocks.{anyBlock, chosenBlock, erasedBlock, newBlocks, openedFor, pulsed, room, userAddresses, writtenByPlacement, writtenFirst, writtenInto, writtenNext, writtenOnwards}
+use Rattle.rules.specs.Countdown.{closesByPulse, elapsed, elapsedFrom, pulseOf, secondsOf}
 use Rattle.rules.specs.Counting.{implies}
 use Rattle.rules.specs.Domains.{deletedDomain, freedIfHeld}
 use Rattle.rules.specs.Drive.{Drive, blockAt, heldBy, isClosed, isClosedState, isFree, isFreeState, isOpen, isOpenState, openBlock, size, withBlock}
 use Rattle.rules.specs.Effects.{accepted, driveAfter, effect, erasing, verdict}
-use Rattle.rules.specs.Countdown.{closesByPulse, elapsed, elapsedFrom, pulseOf, secondsOf}
 use Rattle.rules.specs.Questions.{Lengths, isErasedAgain, isHeld, mayErase, questions}
 use Rattle.rules.specs.Runs.{Call, begun, reference, run, step}
 use Rattle.rules.specs.Start.{Started}
-use Rattle.rules.proofs.Counting.{clash}
 use Rattle.rules.proofs.Blocks.{Choice, choice}
+use Rattle.rules.proofs.Counting.{clash}
 use Rattle.rules.proofs.Drive.{block-changed, block-changed-below, block-set}
 use Rattle.rules.proofs.Questions.{answered-yes}
 use Rattle.rules.proofs.Runs.{pulse-open}

@@ -85,6 +85,25 @@ unfolding sumTo
 sum-swap zero m f = sym (sum-zero m _ (λ i l. refl))
 sum-swap (suc n) m f = omega (arith, sum-swap n m f, sum-add m (λ j. sumTo (λ i. f i j) n) (f n))
 
+-- A sum of zeros and ones of which no two are ones is at most 1.
+pub sum-alone : (n : ℕ) (f : ℕ → ℕ) → ((i : ℕ) → f i ≤ 1) → ((i k : ℕ) → i < n → k < i → 0 < f i → 0 < f k → ⊥) → sumTo f n ≤ 1
+unfolding sumTo
+sum-alone zero f few alone = omega arith
+sum-alone (suc n) f few alone =
+    by-eq (f n) 0
+    (λ e. omega (arith, sum-alone n f few (λ i k l. alone i k (omega arith))))
+    (λ e. omega (
+      arith,
+      few n,
+      sum-zero n f (λ k l. by-eq (f k) 0 (λ z. z) (λ z. absurd (alone n k (omega arith) l (omega arith) (omega arith)))),
+    ))
+
+-- A sum of terms that are not 0 is at least their number.
+pub sum-least : (n : ℕ) (f : ℕ → ℕ) → ((i : ℕ) → i < n → 1 ≤ f i) → n ≤ sumTo f n
+unfolding sumTo
+sum-least zero f h = omega arith
+sum-least (suc n) f h = omega (arith, sum-least n f (λ i l. h i (omega arith)), h n (omega arith))
+
 -- One number below n is one.
 count-one : (n m : ℕ) → m < n → countTo (eqb m) n ≡ 1
 unfolding sumTo

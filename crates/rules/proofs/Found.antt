@@ -6,8 +6,8 @@ use mathlib.Core.Option.{Option, none, some, Option·some-injective}
 use mathlib.Core.Path.{_≡_, refl, sym, ap, _∙_, subst}
 use native.Mathlib.Omega.{arith}
 use lib.Dec.{eqb, leb, ltb}
-use borrow.Author.Tests.{eqb-true, leb-true, ltb-true, ne-eqb}
 use lib.ListN.{drop, getD, length, length-drop, length-take, take}
+use borrow.Author.Tests.{eqb-true, leb-true, ltb-true, ne-eqb}
 use Rattle.geometry.proofs.Laws.Address.{fields, fields-word}
 use Rattle.geometry.proofs.Laws.Shape.{Limits, both, by-test, is-between, limits}
 use Rattle.geometry.specs.Address.{fieldsOf, isBlock}

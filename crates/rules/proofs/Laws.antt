@@ -20,8 +20,8 @@ use Rattle.model.specs.declared.command.Listed.the-variants as listed
 use Rattle.model.specs.declared.table.Table.{Table}
 use Rattle.rules.specs.Blocks.{allOnes, chosenBlock, stored, userAddress, userAddresses}
 use Rattle.rules.specs.Claims.{Chosen, ClosedList, Found, Gone, Layout, Reached, Unchanged, rising}
-use Rattle.rules.specs.Drive.{Drive, blockAt, domainAt, heldCount, isFree, isOpen, size}
 use Rattle.rules.specs.Domains.{changedDomain}
+use Rattle.rules.specs.Drive.{Drive, blockAt, domainAt, heldCount, isFree, isOpen, size}
 use Rattle.rules.specs.Effects.{BytesFilled, Served, Serves, answerTo, driveAfter, verdict, wordsFilled}
 use Rattle.rules.specs.LogPages.{OpenList, closedList, listLength, page}
 use Rattle.rules.specs.Questions.{Lengths, questions}
@@ -31,11 +31,11 @@ use Rattle.rules.specs.Start.{emptyTable, started, tableOfZeros}
 use Rattle.rules.proofs.Blocks as blocks
 use Rattle.rules.proofs.Domains as domains
 use Rattle.rules.proofs.Effects as effects
+use Rattle.rules.proofs.Found as found
 use Rattle.rules.proofs.LogPages as pages
 use Rattle.rules.proofs.Questions as asked
 use Rattle.rules.proofs.Runs as runs
 use Rattle.rules.proofs.Start as start
-use Rattle.rules.proofs.Found as found
 
 -- A start within the limits gives the table without domains, which is sound; any other is refused with 1 and the table of zeros,
 -- which is never sound.

@@ -22,7 +22,7 @@ use Rattle.model.specs.declared.command.Command.the-variants.{ChangeCapacity, C
 use Rattle.model.specs.declared.command.Command.the-variants.{WriteByBlock, WriteByPlacement}
 use Rattle.model.specs.declared.table.Domain.{Domain}
 use Rattle.model.specs.declared.table.Table.{Table}
-use Rattle.rules.specs.Blocks.{chosenBlock, erasedBlock, nextSerial, newBlocks, openedFor, withLast, room, userAddresses, writtenByPlacement, writtenFirst, writtenInto, writtenNext, writtenOnwards}
+use Rattle.rules.specs.Blocks.{chosenBlock, erasedBlock, newBlocks, nextSerial, openedFor, room, userAddresses, withLast, writtenByPlacement, writtenFirst, writtenInto, writtenNext, writtenOnwards}
 use Rattle.rules.specs.Claims.{Gone, Reached}
 use Rattle.rules.specs.Domains.{deletedDomain}
 use Rattle.rules.specs.Drive.{Drive, blockAt, capacity, domainAt, heldBy, isOpen, isOpenState, openBlock, size, withBlock, withDomain, withEachBlock}

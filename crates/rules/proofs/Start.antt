@@ -9,9 +9,9 @@ use Rattle.geometry.specs.Questions.{answered, firstNo, refusal, success}
 use Rattle.geometry.specs.Shape.{eachInRange, withinLimits}
 use Rattle.geometry.specs.declared.shape.Config.{Config}
 use Rattle.model.specs.declared.block.Block.{Block}
-use Rattle.rules.specs.Domains.{covered, coverage, reservedBy}
+use Rattle.rules.specs.Domains.{coverage, covered, reservedBy}
 use Rattle.rules.specs.Drive.{blockAt, clearBlock, clearDomain, domainAt, eachBlock, eachDomain, heldCount}
-use Rattle.rules.specs.Soundness.{sound, quotaKept, openLimitKept, eachPair, serialsDiffer, serialGiven, holderExists, placementExists, placementsDiffer, freeIsClear, missingIsClear}
+use Rattle.rules.specs.Soundness.{eachPair, freeIsClear, holderExists, missingIsClear, openLimitKept, placementExists, placementsDiffer, quotaKept, serialGiven, serialsDiffer, sound}
 use Rattle.rules.specs.Start.{emptyTable, started, tableOfZeros}
 use Rattle.rules.proofs.Counting.{each-all, sum-zero}
 use Rattle.rules.proofs.Drive.{get-replicate}

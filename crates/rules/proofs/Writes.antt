@@ -8,9 +8,9 @@ use mathlib.Core.Path.{_≡_, refl, sym, ap, _∙_, subst}
 use native.Mathlib.Nat.{add-assoc, sub-zero}
 use native.Mathlib.Omega.{arith}
 use lib.Dec.{ltb}
-use borrow.Author.Tests.{ltb-false, ltb-true}
 use lib.ListN.{drop, getD, length, length-append, length-replicate, length-set, length-take, replicate, take, take-append-drop, getD-replicate, List·getD-append}
 use lib.Seq.{getD-set-same, getD-set-other}
+use borrow.Author.Tests.{ltb-false, ltb-true}
 use Rattle.geometry.proofs.Laws.Shape.{by-test, starts-apart, starts-end}
 use Rattle.geometry.specs.Address.{wordOf}
 use Rattle.geometry.specs.Shape.{adus, adusPerBlock, storeLength, stretchStart}

@@ -10,7 +10,7 @@ use Rattle.model.specs.declared.block.Block.{Block}
 use Rattle.model.specs.declared.table.Domain.{Domain}
 use Rattle.model.specs.declared.table.Table.{Table}
 use Rattle.rules.specs.Counting.{sumTo}
-use Rattle.rules.specs.Drive.{clearDomain, domainAt, heldCount, heldBy, size, withDomain, withEachBlock}
+use Rattle.rules.specs.Drive.{clearDomain, domainAt, heldBy, heldCount, size, withDomain, withEachBlock}
 
 -- Guaranteed planes and quota planes are 0 to S × W.
 abbrev pub arePlaneCounts : Config → Planes → Planes → Bool

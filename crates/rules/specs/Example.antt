@@ -15,7 +15,7 @@ use Rattle.model.specs.declared.command.Listed.the-variants as listed
 use Rattle.rules.specs.Blocks.{anyBlock}
 use Rattle.rules.specs.Drive.{Drive}
 use Rattle.rules.specs.Noninterference.{fullyReserved, inputs}
-use Rattle.rules.specs.Observation.{Name, Input, Request, serialAt}
+use Rattle.rules.specs.Observation.{Input, Name, Request, serialAt}
 use Rattle.rules.specs.ProvedTable.{call, calls, domain1, enough, freshStore, heldIn, small}
 use Rattle.rules.specs.Questions.{Lengths}
 use Rattle.rules.specs.Runs.{Call, answers, begun, run}

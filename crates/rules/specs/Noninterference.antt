@@ -12,7 +12,7 @@ use Rattle.model.specs.declared.command.Command.the-variants.{WriteByBlock, Wri
 use Rattle.rules.specs.Counting.{implies}
 use Rattle.rules.specs.Drive.{Drive, blockAt, domainAt, heldBy}
 use Rattle.rules.specs.Effects.{verdict}
-use Rattle.rules.specs.Observation.{Observation, Input, Replies, Reply, SameHoldings, concerns, observed, inputOf}
+use Rattle.rules.specs.Observation.{Input, Observation, Replies, Reply, SameHoldings, concerns, inputOf, observed}
 use Rattle.rules.specs.Questions.{exists}
 use Rattle.rules.specs.Runs.{Call, ownDomain, run, step}
 

@@ -16,7 +16,7 @@ use Rattle.model.specs.declared.table.Table.{Table}
 use Rattle.rules.specs.Blocks.{allOnes, anyBlock, lba, matches, newBlocks, stored, userAddress}
 use Rattle.rules.specs.Counting.{allTo, implies}
 use Rattle.rules.specs.Domains.{arePlaneCounts, changedDomain, coveredWith, createdDomain}
-use Rattle.rules.specs.Drive.{Drive, blockAt, capacity, domainAt, heldCount, heldBy, isClosed, isFree, isOpenByErase, openBlock, openCount}
+use Rattle.rules.specs.Drive.{Drive, blockAt, capacity, domainAt, heldBy, heldCount, isClosed, isFree, isOpenByErase, openBlock, openCount}
 use Rattle.rules.specs.LogPages.{listLength}
 use Rattle.rules.specs.Soundness.{sound}
 

@@ -9,7 +9,7 @@ use Rattle.model.specs.declared.command.Command.the-variants.{Close, Create, Er
 use Rattle.rules.specs.Blocks.{anyBlock}
 use Rattle.rules.specs.Counting.{countTo}
 use Rattle.rules.specs.Drive.{blockAt, isFree, size}
-use Rattle.rules.specs.ProvedTable.{Row, after, calls, domain1, freshStore, _are_, _is_, leftOf, numbersGot, small}
+use Rattle.rules.specs.ProvedTable.{Row, _are_, _is_, after, calls, domain1, freshStore, leftOf, numbersGot, small}
 use Rattle.rules.specs.Runs.{answers, begun}
 
 -- The values that the commands of a list are answered, one after the other.

@@ -14,12 +14,13 @@ use Rattle.rules.specs.Blocks.{newBlocks, userAddress, userAddresses}
 use Rattle.rules.specs.Drive.{Drive, blockAt, domainAt, heldCount, size}
 use Rattle.rules.specs.Effects.{effect, verdict}
 use Rattle.rules.specs.Questions.{Lengths, isCount, questions}
-use Rattle.rules.proofs.Kept.Changes.{closed-sequel, freed-sequel, HeldBlock, Writable, written-sequel}
 use Rattle.rules.proofs.Counting.{length-row}
+use Rattle.rules.proofs.Kept.Changes.{HeldBlock, Writable, closed-sequel, freed-sequel, written-sequel}
+use Rattle.rules.proofs.Kept.Facts.{coverageWith}
 use Rattle.rules.proofs.Kept.Fit.{Fit, fit-blocks, fit-ready}
-use Rattle.rules.proofs.Kept.OneBlock.{OwnSequel, coverageWith}
-use Rattle.rules.proofs.Questions.{answered-yes}
 use Rattle.rules.proofs.Kept.Placement.{Asked, placement-sequel}
+use Rattle.rules.proofs.Kept.Sequel.{OwnSequel}
+use Rattle.rules.proofs.Questions.{answered-yes}
 
 module _ (v : Drive) (lent : Lengths) (fit : Fit v lent) where
   abbrev t : Table

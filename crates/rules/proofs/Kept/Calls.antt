@@ -14,23 +14,24 @@ use Rattle.model.specs.declared.command.Command.{Command}
 use Rattle.model.specs.declared.command.Command.the-variants.{ChangeCapacity, Close, Create, Delete, Erase, Free, List as Listing, Page, Pulse, Read}
 use Rattle.model.specs.declared.command.Command.the-variants.{WriteByBlock, WriteByPlacement}
 use Rattle.rules.specs.Blocks.{anyBlock, chosenBlock, newBlocks, userAddress}
+use Rattle.rules.specs.Claims.{LentOwn, Shaped, StillSound}
 use Rattle.rules.specs.Drive.{Drive, heldCount}
 use Rattle.rules.specs.Effects.{accepted, driveAfter, effect, verdict, wordsFilled}
-use Rattle.rules.specs.Claims.{LentOwn, Shaped, StillSound}
 use Rattle.rules.specs.Observation.{isPulse}
 use Rattle.rules.specs.Questions.{Lengths, questions}
 use Rattle.rules.specs.Runs.{Call, ownDomain, run, step}
 use Rattle.rules.specs.Soundness.{sound}
 use Rattle.rules.proofs.Counting.{length-row}
-use Rattle.rules.proofs.Questions.{answered-yes}
-use Rattle.rules.proofs.Kept.Placement.{placement-all}
-use Rattle.rules.proofs.Kept.Tested.{facts-of, facts-sound}
 use Rattle.rules.proofs.Kept.Asked.{block-sequel, close-sequel, free-sequel, placement-asked, written-placement-sequel}
+use Rattle.rules.proofs.Kept.Domains.{changed, created}
 use Rattle.rules.proofs.Kept.Erasing.{any-opens, erase-sequel}
-use Rattle.rules.proofs.Kept.Fit.{Fit}
 use Rattle.rules.proofs.Kept.Facts.{Facts}
-use Rattle.rules.proofs.Kept.OneBlock.{OwnSequel, Sequel, same-sequel}
-use Rattle.rules.proofs.Kept.Sweeps.{changed, created, deleted, pulsed-sequel}
+use Rattle.rules.proofs.Kept.Fit.{Fit}
+use Rattle.rules.proofs.Kept.Placement.{placement-all}
+use Rattle.rules.proofs.Kept.Sequel.{OwnSequel, Sequel, same-sequel}
+use Rattle.rules.proofs.Kept.Sweeps.{deleted, pulsed-sequel}
+use Rattle.rules.proofs.Kept.Tested.{facts-of, facts-sound}
+use Rattle.rules.proofs.Questions.{answered-yes}
 
 module _ (v : Drive) (lent : Lengths) (fit : Fit v lent) where
   effect-sequel : (c : Command) → isPulse c ≡ false → verdict v lent c ≡ 0 → OwnSequel (ownDomain c) v (effect c v .drive)

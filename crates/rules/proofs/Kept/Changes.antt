@@ -19,11 +19,12 @@ use Rattle.rules.specs.Drive.{Drive, blockAt, clearBlock, clearDomain, d
 use Rattle.rules.specs.Observation.{Holding, entriesOf, holdingAt}
 use Rattle.rules.specs.Soundness.{wayBelow}
 use Rattle.rules.proofs.Drive.{domain-other}
-use Rattle.rules.proofs.Kept.Facts.{Facts}
-use Rattle.rules.proofs.Kept.OneBlock.{OwnSequel, block-facts-on, coverageWith, facts-fewer, facts-opened, held-owned}
-use Rattle.rules.proofs.Kept.Mild.{Mild, closed-mild, written-mild}
-use Rattle.rules.proofs.Kept.Views.{Changed, changed-apart, ifPlaced, view, view-changed}
 use Rattle.rules.proofs.Kept.Entries.{entries-stay}
+use Rattle.rules.proofs.Kept.Facts.{Facts, coverageWith}
+use Rattle.rules.proofs.Kept.Mild.{Mild, closed-mild, written-mild}
+use Rattle.rules.proofs.Kept.OneBlock.{block-facts-on, facts-fewer, facts-opened, held-owned}
+use Rattle.rules.proofs.Kept.Sequel.{OwnSequel}
+use Rattle.rules.proofs.Kept.Views.{Changed, changed-apart, ifPlaced, view, view-changed}
 use Rattle.rules.proofs.Writes.{Ready, opened-other, opened-other-entry, opened-ready as open-ready, opened-record as open-record, written-other-entry, written-ready as into-ready, written-record as into-record}
 
 -- A block that a domain holds, ..

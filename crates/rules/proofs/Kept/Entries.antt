@@ -6,8 +6,8 @@ use mathlib.Core.Path.{_≡_, refl, sym, ap, ap₂, _∙_, subst}
 use native.Mathlib.Nat.{suc-add, zero-add}
 use native.Mathlib.Omega.{arith}
 use lib.Dec.{ltb}
-use borrow.Author.Tests.{ltb-false, ltb-true}
 use lib.ListN.{drop, getD, length, length-drop, length-replicate, length-take, replicate, take, getD-replicate}
+use borrow.Author.Tests.{ltb-false, ltb-true}
 use Rattle.geometry.proofs.Laws.Shape.{by-test}
 use Rattle.geometry.specs.Shape.{adusPerBlock, stretchStart}
 use Rattle.geometry.specs.declared.address.FlashAddress.{FlashAddress}

@@ -18,15 +18,16 @@ use Rattle.rules.specs.Drive.{Drive, blockAt, domainAt, heldCount, isFre
 use Rattle.rules.specs.Effects.{effect, verdict}
 use Rattle.rules.specs.Observation.{Holding, holdingAt}
 use Rattle.rules.specs.Questions.{Lengths, isHeld, newOfErase, questions}
-use Rattle.rules.proofs.Counting.{the-first}
-use Rattle.rules.proofs.Kept.Fit.{Fit, fit-blocks, fit-ready}
 use Rattle.rules.proofs.Blocks.{Choice, choice}
-use Rattle.rules.proofs.Kept.Changes.{freed-changed, freed-facts, freed-found, freed-not-held, freed-sequel, HeldBlock, Openable, opened-facts, opened-sequel, reopened}
-use Rattle.rules.proofs.Kept.Facts.{Facts}
-use Rattle.rules.proofs.Kept.OneBlock.{free-nobody, OwnSequel, coverage-changed, coverage-now, coverageWith, sequel-then}
-use Rattle.rules.proofs.Questions.{answered-yes}
-use Rattle.rules.proofs.Kept.Tested.{room-chosen}
+use Rattle.rules.proofs.Counting.{the-first}
+use Rattle.rules.proofs.Kept.Changes.{HeldBlock, Openable, freed-changed, freed-facts, freed-found, freed-not-held, freed-sequel, opened-facts, opened-sequel, reopened}
+use Rattle.rules.proofs.Kept.Facts.{Facts, coverageWith}
+use Rattle.rules.proofs.Kept.Fit.{Fit, fit-blocks, fit-ready}
+use Rattle.rules.proofs.Kept.OneBlock.{coverage-changed, coverage-now, free-nobody}
+use Rattle.rules.proofs.Kept.Room.{room-chosen}
+use Rattle.rules.proofs.Kept.Sequel.{OwnSequel, sequel-then}
 use Rattle.rules.proofs.Kept.Views.{held-view, ifOpen, one, open-view, view, view-changed}
+use Rattle.rules.proofs.Questions.{answered-yes}
 
 -- A block that may be opened for a domain.
 pub record Opens (d n : ℕ) (v : Drive) : Type 0 where

@@ -9,7 +9,7 @@ use Rattle.model.specs.declared.block.State.{State}
 use Rattle.model.specs.declared.block.State.the-variants.{Closed, Free, Open}
 use Rattle.model.specs.declared.table.Domain.{Domain}
 use Rattle.model.specs.declared.table.Table.{Table}
-use Rattle.rules.specs.Domains.{coverage, reservedBy}
+use Rattle.rules.specs.Domains.{coverage, instead, reservedBy}
 use Rattle.rules.specs.Drive.{Drive, blockAt, clearDomain, domainAt, heldCount, openCount, size}
 use Rattle.rules.specs.Soundness.{stateBelow}
 use Rattle.rules.proofs.Kept.Views.{ifPlaced, ifSerial, view}
@@ -70,3 +70,7 @@ pub record Facts (v : Drive) : Type 0 where
   pub unique : (d s : ℕ) → 1 ≤ d → view (ifSerial s) d v ≤ 1
   pub single : (d p : ℕ) → 1 ≤ d → view (ifPlaced p) d v ≤ 1
   pub blocks : (n : ℕ) → n < size (v .table) → BlockFacts (v .table) (blockAt (v .table) n)
+
+-- The coverage sum that question 14 looks at, with so many blocks for the domain.
+abbrev pub coverageWith : Table → ℕ → ℕ → ℕ
+coverageWith t d h = coverage (instead d (domainAt t d .reserved) (reservedBy t)) (instead d h (heldCount t))

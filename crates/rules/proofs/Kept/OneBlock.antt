@@ -4,7 +4,6 @@ use mathlib.Core.Bool.{true, false, true≢false}
 use mathlib.Core.Path.{_≡_, refl, sym, ap, ap₂, _∙_, subst}
 use native.Mathlib.Omega.{arith}
 use lib.Dec.{eqb}
-use lib.ListN.{length}
 use borrow.Author.Tests.{eq-eqb, eqb-true, ne-eqb}
 use Rattle.geometry.proofs.Laws.Shape.{by-test, limits}
 use Rattle.geometry.specs.declared.shape.Config.{Config}
@@ -17,12 +16,12 @@ use Rattle.model.specs.declared.table.Domain.{Domain}
 use Rattle.model.specs.declared.table.Table.{Table}
 use Rattle.rules.specs.Blocks.{nextSerial}
 use Rattle.rules.specs.Domains.{coverage, instead, reservedBy}
-use Rattle.rules.specs.Drive.{blockAt, domainAt, Drive, heldBy, heldCount, isFreeState, isPlacedState, openCount, size}
+use Rattle.rules.specs.Drive.{Drive, blockAt, domainAt, heldBy, heldCount, isFreeState, isPlacedState, openCount, size}
 use Rattle.rules.specs.Observation.{Holding, holdingAt}
 use Rattle.rules.specs.Soundness.{wayBelow}
 use Rattle.rules.proofs.Counting.{by-eq, sum-le, sum-same, sum-zero}
-use Rattle.rules.proofs.Kept.Facts.{BlockFacts, DomainFacts, Facts, Owned, StateFacts}
-use Rattle.rules.proofs.Kept.Views.{Alike, Changed, alike-self, alike-then, changed-apart, held-view, ifOpen, ifPlaced, ifSerial, one, open-view, own-field, view, view-changed, weight}
+use Rattle.rules.proofs.Kept.Facts.{BlockFacts, DomainFacts, Facts, Owned, StateFacts, coverageWith}
+use Rattle.rules.proofs.Kept.Views.{Alike, Changed, changed-apart, held-view, ifOpen, ifPlaced, ifSerial, one, open-view, own-field, view, view-changed, weight}
 
 -- ---- Coverage
 
@@ -211,10 +210,6 @@ instead-others d r h f g f' g' same =
     (λ own. rw (eq-eqb e d own) (refl, refl))
     (λ other. rw (ne-eqb e d other) (same e p other)))
 
--- The coverage sum that question 14 looks at, with so many blocks for the domain.
-abbrev pub coverageWith : Table → ℕ → ℕ → ℕ
-coverageWith t d h = coverage (instead d (domainAt t d .reserved) (reservedBy t)) (instead d h (heldCount t))
-
 pub coverage-now : (t : Table) (d : ℕ) → coverageWith t d (heldCount t d) ≡ coverage (reservedBy t) (heldCount t)
 coverage-now t d = instead-self d (reservedBy t) (heldCount t)
 
@@ -341,36 +336,3 @@ module _ {d n : ℕ} {v w : Drive} (way : Way) (p : 1 ≤ d) (few : d ≤ 16) (c
 
   pub facts-opened : Facts w
   facts-opened = facts-changed p c f opened-allowed
-
--- ---- What a call leaves
-
--- A drive of the same shape, with a sound table.
-pub record Sequel (v w : Drive) : Type 0 where
-  pub facts : Facts w
-  pub config : w .table .config ≡ v .table .config
-  pub domains : length (w .table .domains) ≡ length (v .table .domains)
-  pub blocks : length (w .table .blocks) ≡ length (v .table .blocks)
-  pub store : length (w .store) ≡ length (v .store)
-
--- And no domain but d can tell.
-pub record OwnSequel (d : ℕ) (v w : Drive) : Type 0 where
-  pub sequel : Sequel v w
-  pub others : (e : ℕ) → 1 ≤ e → ¬ (e ≡ d) → Alike e v w
-
-pub same-sequel : (d : ℕ) (v : Drive) → Facts v → OwnSequel d v v
-same-sequel d v f = record {
-  sequel = record { facts = f; config = refl; domains = refl; blocks = refl; store = refl };
-  others = λ e p other. alike-self e v;
-}
-
-pub sequel-then : {d : ℕ} {v w x : Drive} → OwnSequel d v w → OwnSequel d w x → OwnSequel d v x
-sequel-then s t = record {
-  sequel = record {
-    facts = t .sequel .facts;
-    config = t .sequel .config ∙ s .sequel .config;
-    domains = t .sequel .domains ∙ s .sequel .domains;
-    blocks = t .sequel .blocks ∙ s .sequel .blocks;
-    store = t .sequel .store ∙ s .sequel .store;
-  };
-  others = λ e p other. alike-then (s .others e p other) (t .others e p other);
-}

@@ -24,12 +24,13 @@ use Rattle.rules.specs.Blocks.{Written, chosenBlock, nextSerial, openedF
 use Rattle.rules.specs.Drive.{Drive, blockAt, clearDomain, domainAt, heldBy, heldCount, isFree, isOpen, isOpenFor, openBlockTo, openCount, size}
 use Rattle.rules.specs.Observation.{Holding, holdingAt}
 use Rattle.rules.proofs.Blocks.{Choice, choice}
-use Rattle.rules.proofs.Kept.Changes.{Openable, Writable, opened-adds, opened-changed, opened-domain, opened-facts, opened-held, opened-ready, opened-record, opened-sequel, written-changed, written-domains, written-held, written-ready, written-record, written-sequel}
 use Rattle.rules.proofs.Counting.{by-eq}
 use Rattle.rules.proofs.Effects.{written-length}
-use Rattle.rules.proofs.Kept.Facts.{Facts}
-use Rattle.rules.proofs.Kept.OneBlock.{coverage-changed, coverage-le, coverageWith, free-nobody, OwnSequel, same-sequel, sequel-then, view-none}
-use Rattle.rules.proofs.Kept.Tested.{room-chosen}
+use Rattle.rules.proofs.Kept.Changes.{Openable, Writable, opened-adds, opened-changed, opened-domain, opened-facts, opened-held, opened-ready, opened-record, opened-sequel, written-changed, written-domains, written-held, written-ready, written-record, written-sequel}
+use Rattle.rules.proofs.Kept.Facts.{Facts, coverageWith}
+use Rattle.rules.proofs.Kept.OneBlock.{coverage-changed, coverage-le, free-nobody, view-none}
+use Rattle.rules.proofs.Kept.Room.{room-chosen}
+use Rattle.rules.proofs.Kept.Sequel.{OwnSequel, same-sequel, sequel-then}
 use Rattle.rules.proofs.Kept.Views.{held-view, ifOpen, ifPlaced, one, open-view, view, view-changed}
 use Rattle.rules.proofs.Writes.{Ready, onwards-some, onwards-zero}
 

@@ -20,11 +20,12 @@ use Rattle.rules.specs.Blocks.{Written, newBlocks, room, roomIn, written
 use Rattle.rules.specs.Drive.{Drive, blockAt, clearDomain, domainAt, heldBy, heldCount, isOpen, isOpenFor, isOpenState, isPlacedState, openBlock, size}
 use Rattle.rules.specs.Observation.{Holding, holdingAt}
 use Rattle.rules.specs.Questions.{mayOpenFor}
-use Rattle.rules.proofs.Kept.Changes.{Writable, written-changed, written-domains, written-held, written-ready, written-record, written-sequel}
 use Rattle.rules.proofs.Effects.{written-length}
-use Rattle.rules.proofs.Kept.Facts.{Facts, StateFacts}
-use Rattle.rules.proofs.Kept.OneBlock.{OwnSequel, coverage-changed, coverageWith, sequel-then}
+use Rattle.rules.proofs.Kept.Changes.{Writable, written-changed, written-domains, written-held, written-ready, written-record, written-sequel}
+use Rattle.rules.proofs.Kept.Facts.{Facts, StateFacts, coverageWith}
+use Rattle.rules.proofs.Kept.OneBlock.{coverage-changed}
 use Rattle.rules.proofs.Kept.Onwards.{Onward, OpenTo, Takes, full-closed, no-weight, none-placed, onward-all, onward-sequel, open-to, takes, takes-some}
+use Rattle.rules.proofs.Kept.Sequel.{OwnSequel, sequel-then}
 use Rattle.rules.proofs.Kept.Views.{held-view, ifOpen, ifPlaced, one, open-view, view, view-changed}
 use Rattle.rules.proofs.Writes.{Ready}
 

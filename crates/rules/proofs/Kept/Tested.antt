@@ -1,7 +1,6 @@
--- The facts of soundness follow from the test, and the test from the facts; and where coverage leaves room a block is Free.
-use Prim.Native.Nat.{ℕ, zero, suc, _+_, _-_, _≤_, _<_, max}
+-- The facts of soundness follow from the test, and the test from the facts.
+use Prim.Native.Nat.{ℕ, _+_, _-_, _≤_, _<_}
 use mathlib.Core.Bool.{Bool, true, false, true≢false, not, _&&_, cond}
-use mathlib.Core.Option.{Option, none, some}
 use mathlib.Core.Path.{_≡_, refl, sym, ap, _∙_, subst}
 use native.Mathlib.Omega.{arith}
 use lib.Dec.{eqb, leb, ltb}
@@ -15,17 +14,15 @@ use Rattle.model.specs.declared.block.State.the-variants.{Closed, Free, Open}
 use Rattle.model.specs.declared.block.Way.the-variants.{Erase, Placement}
 use Rattle.model.specs.declared.table.Domain.{Domain}
 use Rattle.model.specs.declared.table.Table.{Table}
-use Rattle.rules.specs.Blocks.{chosenBlock}
-use Rattle.rules.specs.Counting.{implies, sumTo}
-use Rattle.rules.specs.Domains.{coverage, instead, reservedBy}
+use Rattle.rules.specs.Counting.{implies}
+use Rattle.rules.specs.Domains.{coverage, reservedBy}
 use Rattle.rules.specs.Drive.{Drive, blockAt, clearDomain, domainAt, eachDomain, heldBy, heldCount, isFree, isFreeState, isPlacedState, openCount, size}
 use Rattle.rules.specs.Observation.{Holding, holdingAt}
 use Rattle.rules.specs.Soundness.{countsKept, eachPair, freeIsClear, holderExists, missingIsClear, openLimitKept, placementExists, placementsDiffer, quotaKept, sameHolder, samePlacement, serialGiven, serialsDiffer, sound}
-use Rattle.rules.proofs.Blocks.{Choice, choice}
-use Rattle.rules.proofs.Counting.{all-each, by-eq, clash, each-all, sum-add, sum-le, sum-swap, sum-term, sum-two, sum-zero}
+use Rattle.rules.proofs.Counting.{all-each, clash, each-all, sum-alone, sum-two}
 use Rattle.rules.proofs.Kept.Facts.{BlockFacts, DomainFacts, Existing, Facts, FreeFacts, Owned, StateFacts}
-use Rattle.rules.proofs.Soundness.{Clauses, apart, together}
 use Rattle.rules.proofs.Kept.Views.{ifPlaced, ifSerial, view, weight}
+use Rattle.rules.proofs.Soundness.{Clauses, apart, together}
 
 -- ---- Tests
 
@@ -112,7 +109,7 @@ state-facts t b (Closed way) e q c =
     }
 
 -- A block that is not Free is owned.
-owned-by : (t : Table) (b : Block) → BlockFacts t b → isFree b ≡ false → Owned t b
+pub owned-by : (t : Table) (b : Block) → BlockFacts t b → isFree b ≡ false → Owned t b
 owned-by t b f e = go (b .state) f e
   where
     go : (s : State) → StateFacts t s b → isFreeState s ≡ false → Owned t b
@@ -237,27 +234,6 @@ domain-of t d q o m =
       existing = λ e. existing-of r (openCount t d) (implied (r .exists) _ o e);
       missing = missing-of r m;
     }
-
--- ---- Sums
-
--- A sum of zeros and ones of which no two are ones is at most 1.
-sum-alone : (n : ℕ) (f : ℕ → ℕ) → ((i : ℕ) → f i ≤ 1) → ((i k : ℕ) → i < n → k < i → 0 < f i → 0 < f k → ⊥) → sumTo f n ≤ 1
-unfolding sumTo
-sum-alone zero f few alone = omega arith
-sum-alone (suc n) f few alone =
-    by-eq (f n) 0
-    (λ e. omega (arith, sum-alone n f few (λ i k l. alone i k (omega arith))))
-    (λ e. omega (
-      arith,
-      few n,
-      sum-zero n f (λ k l. by-eq (f k) 0 (λ z. z) (λ z. absurd (alone n k (omega arith) l (omega arith) (omega arith)))),
-    ))
-
--- A sum of terms that are not 0 is at least their number.
-sum-least : (n : ℕ) (f : ℕ → ℕ) → ((i : ℕ) → i < n → 1 ≤ f i) → n ≤ sumTo f n
-unfolding sumTo
-sum-least zero f h = omega arith
-sum-least (suc n) f h = omega (arith, sum-least n f (λ i l. h i (omega arith)), h n (omega arith))
 
 -- ---- Two blocks
 
@@ -472,60 +448,3 @@ module _ (v : Drive) (f : Facts v) where
 
 pub facts-sound : (v : Drive) → Facts v → sound (v .table) ≡ true
 facts-sound v f = together (v .table) (all-clauses v f)
-
--- ---- Room
-
--- Where no block is Free, the domains hold them all.
-all-held : (v : Drive) → Facts v → ((n : ℕ) → n < size (v .table) → isFree (blockAt (v .table) n) ≡ false)
-    → size (v .table) ≤ sumTo (λ i. heldCount (v .table) (i + 1)) 16
-unfolding heldCount
-all-held v f taken =
-    let t = v .table in
-    let holds : ℕ → ℕ → ℕ = λ n i. cond (heldBy (i + 1) (blockAt t n)) 1 0 in
-    omega (
-      arith,
-      sum-least (size t) (λ n. sumTo (holds n) 16) (λ n l.
-          let o = owned-by t (blockAt t n) (f .blocks n l) (taken n l) in
-          let d = blockAt t n .holder in
-          let one : holds n (d - 1) ≡ 1 = rw (eq-eqb d (d - 1 + 1) (omega (arith, o .low))) in
-          omega (arith, one, sum-term 16 (holds n) (d - 1) (omega (arith, o .low, o .high)))),
-      sum-swap (size t) 16 holds,
-    )
-
--- With k blocks more for a domain the coverage is at least k more than what the domains hold.
-covers-more : (reserved held : ℕ → ℕ) (d r k : ℕ) → 1 ≤ d → d ≤ 16
-    → sumTo (λ i. held (i + 1)) 16 + k ≤ coverage (instead d r reserved) (instead d (held d + k) held)
-unfolding coverage
-covers-more reserved held d r k low high =
-    let more : ℕ → ℕ = λ i. cond (eqb (i + 1) d) k 0 in
-    let covered : ℕ → ℕ = λ i. max (instead d r reserved (i + 1)) (instead d (held d + k) held (i + 1)) in
-    let whole : more (d - 1) ≡ k = rw (eq-eqb (d - 1 + 1) d (omega arith)) in
-    omega (
-      arith,
-      whole,
-      sum-term 16 more (d - 1) (omega arith),
-      sum-add 16 (λ i. held (i + 1)) more,
-      sum-le 16 (λ i. held (i + 1) + more i) covered (λ i l.
-          by-test (eqb (i + 1) d)
-          (λ e. rw (e, eqb-true (i + 1) d e) (omega arith))
-          (λ e. rw e (omega arith))),
-    )
-
--- Where coverage holds with more blocks for a domain than it holds, some block is Free, so that one is chosen.
-pub room-chosen : (v : Drive) (d k : ℕ) → Facts v → 1 ≤ d → d ≤ 16
-    → coverage (instead d (domainAt (v .table) d .reserved) (reservedBy (v .table))) (instead d (heldCount (v .table) d + k) (heldCount (v .table))) ≤ size (v .table)
-    → 1 ≤ k
-    → (n : ℕ) × (chosenBlock (v .table) ≡ some n)
-room-chosen v d k f low high covers some-room =
-    go (chosenBlock (v .table)) (choice (v .table) (size (v .table)))
-  where
-    go : (chosen : Option ℕ) → Choice (v .table) (size (v .table)) chosen → (n : ℕ) × (chosen ≡ some n)
-    go none c =
-        absurd (omega (
-          arith,
-          covers,
-          some-room,
-          all-held v f c,
-          covers-more (reservedBy (v .table)) (heldCount (v .table)) d (domainAt (v .table) d .reserved) k low high,
-        ))
-    go (some n) c = (n, refl)

@@ -2,7 +2,7 @@
 -- alike for a domain if these are the same; how many blocks it holds, how many are open, which serials there are, all are such sums.
 use Prim.Native.Nat.{ℕ, _+_, _≤_, _<_}
 use mathlib.Core.Bool.{false, cond}
-use mathlib.Core.Path.{_≡_, refl, sym, _∙_, ap}
+use mathlib.Core.Path.{_≡_, refl, sym, ap, _∙_}
 use native.Mathlib.Omega.{arith}
 use lib.Dec.{eqb}
 use Rattle.geometry.proofs.Laws.Shape.{by-test}

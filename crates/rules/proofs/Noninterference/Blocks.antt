@@ -1,67 +1,32 @@
 -- The same Close, Free, Erase or Write by block in two drives that the domain cannot tell apart.
-use Prim.Native.Nat.{_+_, _-_, min, ℕ}
+use Prim.Native.Nat.{ℕ, _+_, _-_}
 use mathlib.Core.Bool.{true}
 use mathlib.Core.List.{List, [], _∷_}
 use mathlib.Core.Path.{_≡_, refl, sym, ap, ap₂, _∙_}
-use lib.Dec.{ltb}
-use lib.ListN.{getD, length, replicate}
+use lib.ListN.{getD, replicate}
 use borrow.Author.Tests.{lt-ltb, ltb-true}
-use Rattle.geometry.proofs.Laws.Shape.{by-test}
 use Rattle.geometry.specs.Address.{isBlock}
-use Rattle.geometry.specs.Shape.{adus, adusPerBlock}
-use Rattle.geometry.specs.declared.shape.Adus.{Adus}
+use Rattle.geometry.specs.Shape.{adusPerBlock}
 use Rattle.geometry.specs.declared.shape.Config.{Config}
-use Rattle.model.specs.Blocks.{closed, writtenOn}
 use Rattle.model.specs.declared.block.Block.{Block}
-use Rattle.model.specs.declared.block.State.{State}
 use Rattle.model.specs.declared.block.State.the-variants as state
 use Rattle.model.specs.declared.block.Way.{Way}
 use Rattle.model.specs.declared.command.Command.the-variants.{Close, Free}
+use Rattle.model.specs.declared.table.Domain.{Domain}
 use Rattle.rules.specs.Blocks.{allOnes, closedAt, nextSerial, openedFor, withLast, writtenInto}
-use Rattle.rules.specs.Drive.{blockAt, clearDomain, Drive, heldBy, overwritten, size}
+use Rattle.rules.specs.Drive.{Drive, blockAt, clearDomain, heldBy, size}
 use Rattle.rules.specs.Effects.{effect, verdict}
 use Rattle.rules.specs.Observation.{Bytes, Holding, Observation, Words, entriesOf, holdingAt, nameOf}
 use Rattle.rules.specs.Questions.{Lengths, questions}
-use Rattle.model.specs.declared.table.Domain.{Domain}
-use Rattle.rules.proofs.Kept.Fit.{Fit, fit-blocks}
 use Rattle.rules.proofs.Kept.Asked.{close-asked, free-asked}
-use Rattle.rules.proofs.Kept.Changes.{HeldBlock, Openable, Writable, closed-changed, closed-found, closed-held, freed-changed, freed-not-held, not-held, opened-changed, opened-domain, opened-held, opened-record, written-changed, written-domains, written-held, written-record}
-use Rattle.rules.proofs.Noninterference.Common.{Pair, exists-same, holding-same, inside-other, inside-same, own-other, own-same, sound-same}
-use Rattle.rules.proofs.Kept.Entries.{entries-opened, entries-written}
 use Rattle.rules.proofs.Kept.Calls.{course-fit}
-use Rattle.rules.proofs.Kept.Sweeps.{bare}
-use Rattle.rules.proofs.Noninterference.Twins.{Twin, ask-same, told}
+use Rattle.rules.proofs.Kept.Changes.{HeldBlock, Openable, Writable, closed-changed, closed-found, closed-held, freed-changed, freed-not-held, not-held, opened-changed, opened-domain, opened-held, opened-record, written-changed, written-domains, written-held, written-record}
+use Rattle.rules.proofs.Kept.Entries.{entries-opened, entries-written}
+use Rattle.rules.proofs.Kept.Fit.{Fit, fit-blocks}
+use Rattle.rules.proofs.Kept.Holdings.{closed-seen, closedHolding, seenOf, written-seen, writtenHolding}
 use Rattle.rules.proofs.Kept.Views.{Alike, alike-changed, weight}
-
--- ---- What a change of a block's record makes of a holding: it looks at neither holder nor P/E count.
-
-abbrev seenOf : Block → List ℕ → Holding
-seenOf b entries = record { serial = b .serial; state = b .state; written = b .written .0; left = b .left; entries = entries }
-
-abbrev closedHolding : Holding → Holding
-closedHolding h = seenOf (closed (bare h)) (h .entries)
-
-closed-seen : (s : State) (holder : ℕ) (written : Adus) (left erases serial : ℕ) (entries : List ℕ)
-    → let b : Block = record { state = s; holder = holder; written = written; left = left; erases = erases; serial = serial } in
-    seenOf (closed b) entries ≡ closedHolding (seenOf b entries)
-unfolding closed
-closed-seen state.Free holder written left erases serial entries = refl
-closed-seen (state.Open way) holder written left erases serial entries = refl
-closed-seen (state.Closed way) holder written left erases serial entries = refl
-
-abbrev writtenHolding : List ℕ → ℕ → Holding → Holding
-writtenHolding users capacity h =
-    seenOf (writtenOn (adus (length users)) (adus capacity) (bare h)) (overwritten (h .written) users (h .entries))
-
-written-seen : (s : State) (holder : ℕ) (written : Adus) (left erases serial : ℕ) (users entries : List ℕ) (capacity : ℕ)
-    → let b : Block = record { state = s; holder = holder; written = written; left = left; erases = erases; serial = serial } in
-    seenOf (writtenOn (adus (length users)) (adus capacity) b) (overwritten (written .0) users entries)
-    ≡ writtenHolding users capacity (seenOf b entries)
-unfolding closed writtenOn
-written-seen state.Free holder written left erases serial users entries capacity = refl
-written-seen (state.Open way) holder written left erases serial users entries capacity =
-    by-test (ltb (min (written .0 + length users) capacity) capacity) (λ e. rw e) (λ e. rw e)
-written-seen (state.Closed way) holder written left erases serial users entries capacity = refl
+use Rattle.rules.proofs.Noninterference.Common.{Pair, exists-same, holding-same, inside-other, inside-same, own-other, own-same, sound-same}
+use Rattle.rules.proofs.Noninterference.Twins.{Twin, ask-same, told}
 
 -- A closed block, a written one and an opened one as their domain sees them.
 close-holding : {d n : ℕ} {v : Drive} → HeldBlock d n v

@@ -18,11 +18,11 @@ use Rattle.rules.specs.Observation.{Holds, Name, held, holdingAt, nameOf
 use Rattle.rules.specs.Questions.{Lengths, coveredAfter, exists, mayOpen, serialsLeft, storeFits, withinQuota}
 use Rattle.rules.specs.Soundness.{sound}
 use Rattle.rules.proofs.Counting.{by-eq, sum-le}
-use Rattle.rules.proofs.Kept.OneBlock.{held-alike, open-alike}
-use Rattle.rules.proofs.Noninterference.Pairing.{paired}
 use Rattle.rules.proofs.Kept.Calls.{Course}
+use Rattle.rules.proofs.Kept.OneBlock.{held-alike, open-alike}
 use Rattle.rules.proofs.Kept.Tested.{facts-sound}
 use Rattle.rules.proofs.Kept.Views.{Alike}
+use Rattle.rules.proofs.Noninterference.Pairing.{paired}
 
 -- A domain's coverage is at most what it was if the larger of its two numbers is.
 pub coverage-within : (d r h : ℕ) (f g : ℕ → ℕ) → max r h ≤ max (f d) (g d)

@@ -21,15 +21,17 @@ use Rattle.rules.specs.Noninterference.{staysReserved}
 use Rattle.rules.specs.Observation.{Holding}
 use Rattle.rules.specs.Questions.{Lengths, exists, questions}
 use Rattle.rules.specs.Soundness.{sound}
-use Rattle.rules.proofs.Noninterference.Common.{Pair, coverage-within, exists-same, held-same, sound-same}
 use Rattle.rules.proofs.Effects.{accepted-drive}
-use Rattle.rules.proofs.Kept.OneBlock.{OwnSequel}
+use Rattle.rules.proofs.Kept.Calls.{Course}
+use Rattle.rules.proofs.Kept.Domains.{changed, created}
+use Rattle.rules.proofs.Kept.Holdings.{aged}
+use Rattle.rules.proofs.Kept.Sequel.{OwnSequel}
+use Rattle.rules.proofs.Kept.Sweeps.{pulsed-domain, pulsed-sequel, pulsed-view}
+use Rattle.rules.proofs.Kept.Views.{Alike, view}
+use Rattle.rules.proofs.Noninterference.Common.{Pair, coverage-within, exists-same, held-same, sound-same}
+use Rattle.rules.proofs.Noninterference.Twins.{Twin, ask-same}
 use Rattle.rules.proofs.Questions.{answered-yes}
 use Rattle.rules.proofs.Runs.{deleted-gone}
-use Rattle.rules.proofs.Kept.Calls.{Course}
-use Rattle.rules.proofs.Kept.Sweeps.{aged, changed, created, pulsed-domain, pulsed-sequel, pulsed-view}
-use Rattle.rules.proofs.Noninterference.Twins.{Twin, ask-same}
-use Rattle.rules.proofs.Kept.Views.{Alike, view}
 
 -- What Create and Change Capacity are asked, by the answers.
 abbrev asked : Bool → Bool → Bool → Bool → Bool → List Question

@@ -19,14 +19,14 @@ use Rattle.rules.specs.Effects.{Effect, effect, verdict}
 use Rattle.rules.specs.Noninterference.{erasesOwn}
 use Rattle.rules.specs.Observation.{Bytes, Holding, Observation, Words, holdingAt, nameOf, serialAt}
 use Rattle.rules.specs.Questions.{Lengths, coveredAfter, isErasable, isErasedAgain, mayErase, newOfErase, questions, withinQuota}
+use Rattle.rules.proofs.Kept.Calls.{course-fit}
+use Rattle.rules.proofs.Kept.Erasing.{again-is, again-opens, any-opens}
 use Rattle.rules.proofs.Kept.Fit.{Fit}
+use Rattle.rules.proofs.Kept.Views.{Alike}
 use Rattle.rules.proofs.Noninterference.Blocks.{blockTold, freed-alike, opened-alike, opened-same}
 use Rattle.rules.proofs.Noninterference.Common.{Pair, covered-same, exists-same, fits-same, holding-same, inside-other, inside-same, may-open-same, number-same, own-other, quota-same, serials-same, sound-same}
-use Rattle.rules.proofs.Kept.Erasing.{again-is, again-opens, any-opens}
-use Rattle.rules.proofs.Questions.{answered-yes}
-use Rattle.rules.proofs.Kept.Calls.{course-fit}
 use Rattle.rules.proofs.Noninterference.Twins.{Twin, ask-same}
-use Rattle.rules.proofs.Kept.Views.{Alike}
+use Rattle.rules.proofs.Questions.{answered-yes}
 
 -- What an effect that opens a block is told as.
 abbrev toldOf : Effect → List ℕ → Observation

@@ -8,15 +8,15 @@ use lib.Dec.{eqb}
 use borrow.Author.Tests.{eqb-false}
 use Rattle.geometry.proofs.Laws.Shape.{both, by-test}
 use Rattle.rules.specs.Drive.{Drive}
-use Rattle.rules.specs.Noninterference.{Exchange, Replied, calls, erasesOwn, fullyReserved, notUncovered, observations, inputs, reservesAll, staysReserved}
-use Rattle.rules.specs.Observation.{Input, Replies, Reply, concerns, isPulse, observed, inputOf}
+use Rattle.rules.specs.Noninterference.{Exchange, Replied, calls, erasesOwn, fullyReserved, inputs, notUncovered, observations, reservesAll, staysReserved}
+use Rattle.rules.specs.Observation.{Input, Replies, Reply, concerns, inputOf, isPulse, observed}
 use Rattle.rules.specs.Questions.{Lengths}
 use Rattle.rules.specs.Runs.{Call, ownDomain, run, step}
+use Rattle.rules.proofs.Kept.Calls.{Course, course-fit, course-step, own-sequel}
+use Rattle.rules.proofs.Kept.Views.{Alike, alike-back, alike-then}
 use Rattle.rules.proofs.Noninterference.Common.{Pair}
 use Rattle.rules.proofs.Noninterference.Requests.{Proper, same-twins}
-use Rattle.rules.proofs.Kept.Calls.{Course, course-fit, course-step, own-sequel}
 use Rattle.rules.proofs.Noninterference.Twins.{Twin, twin-alike, twin-observed}
-use Rattle.rules.proofs.Kept.Views.{Alike, alike-then, alike-back}
 
 -- ---- A neighbour's call
 

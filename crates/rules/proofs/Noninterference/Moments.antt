@@ -10,20 +10,20 @@ use Rattle.geometry.proofs.Laws.Shape.{both, by-test, is-between}
 use Rattle.geometry.specs.Address.{isDomainId}
 use Rattle.geometry.specs.Shape.{storeLength, withinLimits}
 use Rattle.geometry.specs.declared.shape.Config.{Config}
-use Rattle.rules.specs.Drive.{Drive, blockAt, heldBy}
 use Rattle.rules.specs.Claims.{Guaranteed}
-use Rattle.rules.specs.Noninterference.{Exchange, Indistinguishable, Replied, calls, fullyReserved, isAllowed, inputs, reservesAll}
+use Rattle.rules.specs.Drive.{Drive, blockAt, heldBy}
+use Rattle.rules.specs.Noninterference.{Exchange, Indistinguishable, Replied, calls, fullyReserved, inputs, isAllowed, reservesAll}
 use Rattle.rules.specs.Observation.{Input, concerns, inputOf}
 use Rattle.rules.specs.Runs.{Call, begun, reference, step}
 use Rattle.rules.specs.Start.{emptyTable}
-use Rattle.rules.proofs.Kept.OneBlock.{view-none}
-use Rattle.rules.proofs.Noninterference.Lists.{Given, both-lists}
-use Rattle.rules.proofs.Noninterference.Pairing.{same-holdings}
 use Rattle.rules.proofs.Kept.Calls.{Course, course-run}
-use Rattle.rules.proofs.Soundness.{apart}
-use Rattle.rules.proofs.Start.{clear-block, clear-domain, empty-sound, start-accepted}
+use Rattle.rules.proofs.Kept.OneBlock.{view-none}
 use Rattle.rules.proofs.Kept.Tested.{facts-of, facts-sound}
 use Rattle.rules.proofs.Kept.Views.{Alike}
+use Rattle.rules.proofs.Noninterference.Lists.{Given, both-lists}
+use Rattle.rules.proofs.Noninterference.Pairing.{same-holdings}
+use Rattle.rules.proofs.Soundness.{apart}
+use Rattle.rules.proofs.Start.{clear-block, clear-domain, empty-sound, start-accepted}
 
 -- ---- The start
 

@@ -26,15 +26,15 @@ use Rattle.rules.specs.Effects.{Fills, effect, verdict}
 use Rattle.rules.specs.LogPages.{listedCount, page}
 use Rattle.rules.specs.Observation.{Bytes, Descriptor, Holding, Observation, Words, entriesOf, holdingAt, nameOf, readList, readPage, serialAt, timesListed}
 use Rattle.rules.specs.Questions.{Lengths, isCount, isHeld, questions}
-use Rattle.rules.proofs.Noninterference.Common.{Pair, exists-same, fits-same, holding-same, inside-other, inside-same, own-other, own-same, sound-same}
+use Rattle.rules.proofs.Kept.Calls.{Course}
 use Rattle.rules.proofs.Kept.Entries.{stored-entries}
 use Rattle.rules.proofs.Kept.Facts.{StateFacts}
 use Rattle.rules.proofs.Kept.OneBlock.{open-alike}
-use Rattle.rules.proofs.Questions.{answered-yes}
-use Rattle.rules.proofs.Noninterference.Readings.{closed-read, open-read, page-read}
-use Rattle.rules.proofs.Kept.Calls.{Course}
-use Rattle.rules.proofs.Noninterference.Twins.{Twin, ask-same, told}
 use Rattle.rules.proofs.Kept.Views.{Alike, closed-view, ifClosed}
+use Rattle.rules.proofs.Noninterference.Common.{Pair, exists-same, fits-same, holding-same, inside-other, inside-same, own-other, own-same, sound-same}
+use Rattle.rules.proofs.Noninterference.Readings.{closed-read, open-read, page-read}
+use Rattle.rules.proofs.Noninterference.Twins.{Twin, ask-same, told}
+use Rattle.rules.proofs.Questions.{answered-yes}
 use Rattle.rules.proofs.Writes.{Ready}
 
 -- ---- A drive in the course of a list of calls

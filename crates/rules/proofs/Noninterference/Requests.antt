@@ -1,6 +1,6 @@
 -- Two calls of a domain that have the same place: whatever the kind, they are twins.
 use Prim.Native.Nat.{ℕ}
-use mathlib.Core.Bool.{Bool, true, false, not, true≢false}
+use mathlib.Core.Bool.{Bool, true, false, true≢false, not}
 use mathlib.Core.List.{List, _∷_}
 use mathlib.Core.Path.{_≡_, refl, sym, ap, _∙_, subst}
 use native.Mathlib.Omega.{arith}
@@ -24,10 +24,10 @@ use Rattle.rules.proofs.Noninterference.Blocks.{close-twin, free-twin}
 use Rattle.rules.proofs.Noninterference.Common.{Pair}
 use Rattle.rules.proofs.Noninterference.Domains.{change-twin, create-twin, delete-twin, pulse-twin}
 use Rattle.rules.proofs.Noninterference.Erase.{erase-twin}
-use Rattle.rules.proofs.Noninterference.WriteByPlacement.{write-placement-twin}
 use Rattle.rules.proofs.Noninterference.Reads.{list-twin, page-twin, read-twin}
 use Rattle.rules.proofs.Noninterference.Twins.{Twin}
 use Rattle.rules.proofs.Noninterference.WriteByBlock.{write-block-twin}
+use Rattle.rules.proofs.Noninterference.WriteByPlacement.{write-placement-twin}
 
 -- A command of the domain a that is this request in the drive w.
 abbrev Requested : ℕ → Drive → Request → Command → Type 0

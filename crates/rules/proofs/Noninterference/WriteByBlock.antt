@@ -18,14 +18,14 @@ use Rattle.rules.specs.Drive.{Drive, isErasedState, size}
 use Rattle.rules.specs.Effects.{effect, verdict}
 use Rattle.rules.specs.Observation.{Bytes, Holding, Observation, Words, holdingAt, nameOf, readAddress, serialAt}
 use Rattle.rules.specs.Questions.{Lengths, isCount, questions}
-use Rattle.rules.proofs.Noninterference.Addresses.{addressesAs, read-written}
 use Rattle.rules.proofs.Kept.Asked.{block-asked}
-use Rattle.rules.proofs.Noninterference.Blocks.{written-alike, written-same}
-use Rattle.rules.proofs.Kept.Changes.{Writable, written-ready}
-use Rattle.rules.proofs.Noninterference.Common.{Pair, exists-same, fits-same, holding-same, inside-same, own-same, sound-same}
 use Rattle.rules.proofs.Kept.Calls.{course-fit}
-use Rattle.rules.proofs.Noninterference.Twins.{Twin, ask-same, told}
+use Rattle.rules.proofs.Kept.Changes.{Writable, written-ready}
 use Rattle.rules.proofs.Kept.Views.{Alike}
+use Rattle.rules.proofs.Noninterference.Addresses.{addressesAs, read-written}
+use Rattle.rules.proofs.Noninterference.Blocks.{written-alike, written-same}
+use Rattle.rules.proofs.Noninterference.Common.{Pair, exists-same, fits-same, holding-same, inside-same, own-same, sound-same}
+use Rattle.rules.proofs.Noninterference.Twins.{Twin, ask-same, told}
 
 -- The flash addresses of the same user addresses in two blocks with one holding.
 module _ {a n m : ℕ} {users : List ℕ} {v w : Drive} (s : Alike a v w) (x : Writable a n users v) (y : Writable a m users w)

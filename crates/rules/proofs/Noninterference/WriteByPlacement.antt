@@ -22,19 +22,19 @@ use Rattle.rules.specs.Drive.{Drive, blockAt, heldBy, isOpenFor, isPlace
 use Rattle.rules.specs.Effects.{effect, verdict}
 use Rattle.rules.specs.Observation.{Holding, Holds, holdingAt, readAddress, serialAt}
 use Rattle.rules.specs.Questions.{Lengths, coveredAfter, isCount, mayOpenFor, questions, serialsLeft, withinQuota}
-use Rattle.rules.proofs.Noninterference.Addresses.{map-append}
-use Rattle.rules.proofs.Kept.Asked.{placement-asked}
-use Rattle.rules.proofs.Noninterference.Blocks.{opened-alike, opened-same, written-alike, written-same}
-use Rattle.rules.proofs.Kept.Changes.{Writable, opened-changed, written-changed, written-held}
-use Rattle.rules.proofs.Noninterference.Common.{Pair, covered-same, exists-same, fits-same, may-open-same, quota-same, serials-same, sound-same}
 use Rattle.rules.proofs.Counting.{by-eq, sum-two}
-use Rattle.rules.proofs.Kept.Facts.{Facts}
-use Rattle.rules.proofs.Noninterference.Pairing.{partner}
-use Rattle.rules.proofs.Kept.Onwards.{Onward, OpenTo, fill-config, next-block, next-onward, next-openable, next-writable, onward-sequel, open-to}
+use Rattle.rules.proofs.Kept.Asked.{placement-asked}
 use Rattle.rules.proofs.Kept.Calls.{course-fit}
-use Rattle.rules.proofs.Noninterference.Twins.{Twin, ask-same, told}
-use Rattle.rules.proofs.Kept.Views.{Alike, alike-back, ifPlaced, view, weight}
+use Rattle.rules.proofs.Kept.Changes.{Writable, opened-changed, written-changed, written-held}
+use Rattle.rules.proofs.Kept.Facts.{Facts}
+use Rattle.rules.proofs.Kept.Onwards.{Onward, OpenTo, fill-config, next-block, next-onward, next-openable, next-writable, onward-sequel, open-to}
 use Rattle.rules.proofs.Kept.Placement.{Asked, first-writable, firstOf, newFor, none-onward, placement-is, restOf, some-onward}
+use Rattle.rules.proofs.Kept.Views.{Alike, alike-back, ifPlaced, view, weight}
+use Rattle.rules.proofs.Noninterference.Addresses.{map-append}
+use Rattle.rules.proofs.Noninterference.Blocks.{opened-alike, opened-same, written-alike, written-same}
+use Rattle.rules.proofs.Noninterference.Common.{Pair, covered-same, exists-same, fits-same, may-open-same, quota-same, serials-same, sound-same}
+use Rattle.rules.proofs.Noninterference.Pairing.{partner}
+use Rattle.rules.proofs.Noninterference.Twins.{Twin, ask-same, told}
 use Rattle.rules.proofs.Noninterference.WriteByBlock.{addressesTold, written-read}
 use Rattle.rules.proofs.Writes.{Ready, onwards-some, onwards-zero}
 
