@@ -3,7 +3,7 @@ use Prim.Native.Nat.{ℕ, _+_, _≤_, _<_}
 use mathlib.Core.Bool.{true, false}
 use mathlib.Core.List.{List}
 use mathlib.Core.Option.{some}
-use mathlib.Core.Path.{_≡_}
+use mathlib.Core.Path.{_≡_, sym, subst}
 use lib.Dec.{eqb, leb}
 use lib.ListN.{length, take}
 use Rattle.geometry.specs.Address.{isDomainId}
@@ -16,7 +16,7 @@ use Rattle.rules.specs.Blocks.{anyBlock, chosenBlock, newBlocks}
 use Rattle.rules.specs.Claims.{Guaranteed, LentOwn, Shaped, StillSound}
 use Rattle.rules.specs.Countdown.{closesByPulse, elapsed}
 use Rattle.rules.specs.Drive.{Drive, blockAt, heldCount, isOpen, size}
-use Rattle.rules.specs.Effects.{driveAfter, verdict, wordsFilled}
+use Rattle.rules.specs.Effects.{Served, Serves, driveAfter, lengthsOf, verdict, wordsFilled}
 use Rattle.rules.specs.Example.{NotEmpty}
 use Rattle.rules.specs.Noninterference.{Exchange, Indistinguishable, Replied, calls, fullyReserved, inputs, isAllowed, reservesAll}
 use Rattle.rules.specs.Questions.{Lengths}
@@ -37,6 +37,15 @@ pub soundness-kept : (v : Drive) (lent : Lengths) (c : Command)
     → sound (v .table) ≡ true
     → StillSound v (driveAfter v lent c)
 soundness-kept v lent c shaped own is-sound = kept.sound-kept v lent shaped own c is-sound
+
+-- So it is of what a call hands back, whatever buffers it is lent.
+pub served-sound : (v : Drive) (c : Command) (words bytes : List ℕ) (r : Served)
+    → Shaped (v .table)
+    → sound (v .table) ≡ true
+    → Serves v c words bytes r
+    → StillSound v (r .drive)
+served-sound v c words bytes r shaped is-sound serves =
+    subst (StillSound v) (sym (serves .leaves)) (soundness-kept v (lengthsOf v words bytes) c shaped (λ e. e) is-sound)
 
 -- Where question 14 is answered yes, a Free block is chosen for each block that is opened: Erase FFFFFFFFh finds one, ..
 pub erase-finds-free : (v : Drive) (lent : Lengths) (d : ℕ)
@@ -89,7 +98,14 @@ pulse-closes c store ks n seconds lent within inside opened accepted =
 
 -- ---- Demand 3, over the rules
 
--- From the start of a configuration, after every call of a list: coverage holds, and no domain holds more blocks than its quota.
+-- From the start of a configuration, after every call of a list: the table is sound, so that no call gets 2; ..
+pub always-sound : (c : Config) (store : List ℕ) (ks : List Call)
+    → withinLimits c ≡ true
+    → length store ≡ storeLength c .0
+    → (i : ℕ) → sound (reference c store (take i ks) .table) ≡ true
+always-sound c store ks within whole i = moments.run-sound c within store (take i ks) whole
+
+-- .. coverage holds, and no domain holds more blocks than its quota.
 pub guarantees : (c : Config) (store : List ℕ) (ks : List Call)
     → withinLimits c ≡ true
     → length store ≡ storeLength c .0

@@ -15,6 +15,7 @@ use Rattle.rules.specs.Drive.{Drive, blockAt, heldBy}
 use Rattle.rules.specs.Noninterference.{Exchange, Indistinguishable, Replied, calls, fullyReserved, inputs, isAllowed, reservesAll}
 use Rattle.rules.specs.Observation.{Input, concerns, inputOf}
 use Rattle.rules.specs.Runs.{Call, begun, reference, step}
+use Rattle.rules.specs.Soundness.{sound}
 use Rattle.rules.specs.Start.{emptyTable}
 use Rattle.rules.proofs.Kept.Calls.{Course, course-run}
 use Rattle.rules.proofs.Kept.OneBlock.{view-none}
@@ -90,11 +91,15 @@ inputs-take a (suc i) (x ∷ xs) v =
 -- ---- The claims
 
 module _ (c : Config) (within : withinLimits c ≡ true) where
+  pub run-sound : (store : List ℕ) (ks : List Call) → length store ≡ storeLength c .0 → sound (reference c store ks .table) ≡ true
+  run-sound store ks whole =
+      facts-sound (reference c store ks) (course-run ks (begun c store) (begun-course c store within whole) .facts)
+
   pub guaranteed : (store : List ℕ) (ks : List Call) → length store ≡ storeLength c .0 → Guaranteed (reference c store ks .table)
   guaranteed store ks whole =
       let f = course-run ks (begun c store) (begun-course c store within whole) .facts in
       record {
-        coverage = apart (reference c store ks .table) (facts-sound (reference c store ks) f) .coverage;
+        coverage = apart (reference c store ks .table) (run-sound store ks whole) .coverage;
         quotas = λ d low high. f .domains d low high .within;
       }
 
