@@ -1,8 +1,9 @@
 -- The laws of sums, tests and rows over the numbers below n.
-use Prim.Native.Nat.{ℕ, zero, suc, _+_, _≤_, _<_}
+use Prim.Native.Nat.{ℕ, zero, suc, _+_, _*_, _≤_, _<_}
 use mathlib.Core.Bool.{Bool, true, false, true≢false, _&&_, _||_, cond}
 use mathlib.Core.List.{List, [], _∷_, _++_}
 use mathlib.Core.Path.{_≡_, refl, sym, ap₂, _∙_}
+use native.Mathlib.Nat.{add-mul}
 use native.Mathlib.Omega.{arith}
 use lib.Dec.{eqb, ltb}
 use lib.ListN.{getD, length, length-append, List·getD-append}
@@ -188,18 +189,53 @@ numbers-once p (suc n) m =
     beyond : ¬ (n ≡ m) → n ≤ m → suc n ≤ m
     beyond e l = omega (arith)
 
+-- The first entry of a list that has nothing from n on is below n, and the rest has nothing from n on.
+pub first-below : (n m : ℕ) (ms : List ℕ) → ((i : ℕ) → n ≤ i → timesIn i (m ∷ ms) ≡ 0) → m < n
+unfolding timesIn
+first-below n m ms h = by-test (ltb m n) (λ e. ltb-true m n e) (λ e. absurd (stands (h m (ltb-false m n e))))
+  where
+    stands : cond (eqb m m) 1 0 + timesIn m ms ≡ 0 → ⊥
+    stands e = omega (arith, rw (eq-eqb m m refl) at e)
+
+pub rest-below : (n m : ℕ) (ms : List ℕ) → ((i : ℕ) → n ≤ i → timesIn i (m ∷ ms) ≡ 0) → (i : ℕ) → n ≤ i → timesIn i ms ≡ 0
+unfolding timesIn
+rest-below n m ms h i l = omega (arith, h i l)
+
 -- A list that has nothing from n on has as many entries as the numbers below n stand in it.
 pub length-times : (n : ℕ) (ms : List ℕ) → ((i : ℕ) → n ≤ i → timesIn i ms ≡ 0) → length ms ≡ sumTo (λ i. timesIn i ms) n
 unfolding timesIn
 length-times n [] h = sym (sum-zero n (λ i. 0) (λ i l. refl))
 length-times n (m ∷ ms) h =
-    let inside : m < n = by-test (ltb m n) (λ e. ltb-true m n e) (λ e. absurd (at-m (h m (ltb-false m n e)))) in
     omega (
       arith,
-      length-times n ms (λ i l. omega (arith, h i l)),
+      length-times n ms (rest-below n m ms h),
       sum-add n (λ i. cond (eqb m i) 1 0) (λ i. timesIn i ms),
-      count-one n m inside,
+      count-one n m (first-below n m ms h),
     )
-  where
-    at-m : cond (eqb m m) 1 0 + timesIn m ms ≡ 0 → ⊥
-    at-m e = omega (arith, rw (eq-eqb m m refl) at e)
+
+-- The sum over the entries of a list.
+unfoldable pub sumOver : (ℕ → ℕ) → List ℕ → ℕ
+sumOver f [] = 0
+sumOver f (n ∷ ns) = f n + sumOver f ns
+
+-- The sum with one term left of it.
+sum-one : (n m : ℕ) (f : ℕ → ℕ) → m < n → sumTo (λ i. cond (eqb m i) 1 0 * f i) n ≡ f m
+sum-one n m f l =
+    let h = sum-at n (λ i. cond (eqb m i) 1 0 * f i) (λ i. 0) m l
+    (λ i k other. rw (ne-eqb m i (λ e. other (sym e))) (omega arith)) in
+    omega (arith, rw (eq-eqb m m refl) at h, sum-zero n (λ i. 0) (λ i k. refl))
+
+-- The sum over a list that has nothing from n on, by how often each number below n stands in it.
+pub sum-over : (n : ℕ) (f : ℕ → ℕ) (ms : List ℕ) → ((i : ℕ) → n ≤ i → timesIn i ms ≡ 0)
+    → sumOver f ms ≡ sumTo (λ i. timesIn i ms * f i) n
+unfolding timesIn sumOver
+sum-over n f [] h = sym (sum-zero n (λ i. 0 * f i) (λ i l. omega arith))
+sum-over n f (m ∷ ms) h =
+    omega (
+      arith,
+      sum-over n f ms (rest-below n m ms h),
+      sum-one n m f (first-below n m ms h),
+      sum-add n (λ i. cond (eqb m i) 1 0 * f i) (λ i. timesIn i ms * f i),
+      sum-same n (λ i. (cond (eqb m i) 1 0 + timesIn i ms) * f i) (λ i. cond (eqb m i) 1 0 * f i + timesIn i ms * f i)
+          (λ i l. add-mul (cond (eqb m i) 1 0) (timesIn i ms) (f i)),
+    )

@@ -2,24 +2,23 @@
 use Prim.Native.Nat.{ℕ, suc, _+_, _*_, _/_, _%_, _≤_, _<_}
 use mathlib.Core.Bool.{Bool, true, false, _&&_, cond}
 use mathlib.Core.List.{List, [], _∷_, _++_}
-use mathlib.Core.Path.{_≡_, refl, sym, ap, _∙_, subst}
-use native.Mathlib.Nat.{add-mul, add-zero, zero-add}
+use mathlib.Core.Path.{_≡_, sym, ap, _∙_, subst}
+use native.Mathlib.Nat.{add-zero, zero-add}
 use native.Mathlib.Omega.{arith}
-use lib.Dec.{eqb, ltb}
+use lib.Dec.{ltb}
 use lib.ListN.{drop, length, replicate, take}
-use borrow.Author.Tests.{eq-eqb, eqb-true, le-ltb, lt-ltb, ltb-false, ltb-true, ne-eqb}
-use Rattle.geometry.proofs.Laws.Shape.{by-test}
+use borrow.Author.Tests.{eqb-true, le-ltb, lt-ltb}
 use Rattle.geometry.specs.Bytes.{littleEndian}
 use Rattle.geometry.specs.Shape.{adusPerBlock}
 use Rattle.geometry.specs.declared.shape.Config.{Config}
 use Rattle.model.specs.declared.block.Block.{Block}
 use Rattle.model.specs.declared.block.State.{State}
-use Rattle.rules.specs.Counting.{numbersTo, sumTo}
+use Rattle.rules.specs.Counting.{numbersTo}
 use Rattle.rules.specs.Drive.{Drive, blockAt, closedOf, heldBy, isClosedState, isOpenState, size}
 use Rattle.rules.specs.LogPages.{OpenList, closedList, listOf, page, placementField, stateByte, timesIn}
 use Rattle.rules.specs.Observation.{Descriptor, Holding, holdingAt, isDescriptor, numberIn, readDescriptors}
 use Rattle.rules.specs.Observation.{readList, readPage, serialAt, timesListed}
-use Rattle.rules.proofs.Counting.{numbers-once, sum-add, sum-at, sum-same, sum-zero}
+use Rattle.rules.proofs.Counting.{first-below, numbers-once, rest-below, sum-over, sum-same, sumOver}
 use Rattle.rules.proofs.Kept.Views.{Alike, view, weight}
 
 -- ---- Numbers
@@ -65,11 +64,6 @@ page-read a v w n m s few inside other held held' same =
 
 -- ---- Lists
 
--- The sum over the entries of a list.
-unfoldable sumOver : (ℕ → ℕ) → List ℕ → ℕ
-sumOver f [] = 0
-sumOver f (n ∷ ns) = f n + sumOver f ns
-
 -- A descriptor as it is read, of a block by its serial and the byte put; the end mark is read with 0 and 0.
 abbrev listed : ℕ → ℕ → Descriptor
 listed serial mark = record { serial = serial; mark = mark % 256; byte6 = 0; byte7 = 0 }
@@ -77,40 +71,6 @@ listed serial mark = record { serial = serial; mark = mark % 256; byte6 = 0; byt
 -- 1 if it is x, else 0.
 abbrev ifRead : Descriptor → ℕ → ℕ → ℕ
 ifRead x serial mark = cond (isDescriptor x (listed serial mark)) 1 0
-
--- The first entry of a list that has nothing from n on is below n, and the rest has nothing from n on.
-first-below : (n m : ℕ) (ms : List ℕ) → ((i : ℕ) → n ≤ i → timesIn i (m ∷ ms) ≡ 0) → m < n
-unfolding timesIn
-first-below n m ms h = by-test (ltb m n) (λ e. ltb-true m n e) (λ e. absurd (stands (h m (ltb-false m n e))))
-  where
-    stands : cond (eqb m m) 1 0 + timesIn m ms ≡ 0 → ⊥
-    stands e = omega (arith, rw (eq-eqb m m refl) at e)
-
-rest-below : (n m : ℕ) (ms : List ℕ) → ((i : ℕ) → n ≤ i → timesIn i (m ∷ ms) ≡ 0) → (i : ℕ) → n ≤ i → timesIn i ms ≡ 0
-unfolding timesIn
-rest-below n m ms h i l = omega (arith, h i l)
-
--- The sum with one term left of it.
-sum-one : (n m : ℕ) (f : ℕ → ℕ) → m < n → sumTo (λ i. cond (eqb m i) 1 0 * f i) n ≡ f m
-sum-one n m f l =
-    let h = sum-at n (λ i. cond (eqb m i) 1 0 * f i) (λ i. 0) m l
-    (λ i k other. rw (ne-eqb m i (λ e. other (sym e))) (omega arith)) in
-    omega (arith, rw (eq-eqb m m refl) at h, sum-zero n (λ i. 0) (λ i k. refl))
-
--- The sum over a list that has nothing from n on, by how often each number below n stands in it.
-sum-over : (n : ℕ) (f : ℕ → ℕ) (ms : List ℕ) → ((i : ℕ) → n ≤ i → timesIn i ms ≡ 0)
-    → sumOver f ms ≡ sumTo (λ i. timesIn i ms * f i) n
-unfolding timesIn sumOver
-sum-over n f [] h = sym (sum-zero n (λ i. 0 * f i) (λ i l. omega arith))
-sum-over n f (m ∷ ms) h =
-    omega (
-      arith,
-      sum-over n f ms (rest-below n m ms h),
-      sum-one n m f (first-below n m ms h),
-      sum-add n (λ i. cond (eqb m i) 1 0 * f i) (λ i. timesIn i ms * f i),
-      sum-same n (λ i. (cond (eqb m i) 1 0 + timesIn i ms) * f i) (λ i. cond (eqb m i) 1 0 * f i + timesIn i ms * f i)
-          (λ i l. add-mul (cond (eqb m i) 1 0) (timesIn i ms) (f i)),
-    )
 
 -- Eight bytes more are one descriptor more.
 next-eight : (n : ℕ) → suc (suc (suc (suc (suc (suc (suc (suc n))))))) / 8 ≡ suc (n / 8)
