@@ -110,6 +110,10 @@ module _ {d n : ℕ} {v : Drive} (h : HeldBlock d n v) (f : Facts v) where
   holder-few : d ≤ 16
   holder-few = omega (arith, held-owned v d n f (h .low) (h .inside) (h .held) .high, holder-is)
 
+-- What is found where the record of a held block is set.
+held-set : {d n : ℕ} {v : Drive} → HeldBlock d n v → (b : Block) → blockAt (withBlock n b (v .table)) n ≡ b
+held-set {d} {n} {v} h b = getD-set-same (v .table .blocks) n b clearBlock (omega (arith, h .inside, h .whole))
+
 -- ---- A mild change of a block that the domain holds
 
 module _ {d n : ℕ} {v : Drive} (h : HeldBlock d n v) (b : Block) (store : List ℕ)
@@ -125,7 +129,7 @@ module _ {d n : ℕ} {v : Drive} (h : HeldBlock d n v) (b : Block) (store : List
   mild-changed = set-changed v d n b store (h .inside) (h .whole) others (held-block d (blockAt (v .table) n) (h .held)) (held-block d b still-held)
 
   found : blockAt (w .table) n ≡ b
-  found = getD-set-same (v .table .blocks) n b clearBlock (omega (arith, h .inside, h .whole))
+  found = held-set h b
 
   mild-held : heldBy d (blockAt (w .table) n) ≡ true
   mild-held = rw found still-held
@@ -147,7 +151,7 @@ module _ {d n : ℕ} {v : Drive} (h : HeldBlock d n v) where
   freeing = record { table = freedAt n (v .table); store = v .store }
 
   pub freed-found : blockAt (freeing .table) n ≡ freed (blockAt (v .table) n)
-  freed-found = getD-set-same (v .table .blocks) n (freed (blockAt (v .table) n)) clearBlock (omega (arith, h .inside, h .whole))
+  freed-found = held-set h (freed (blockAt (v .table) n))
 
   pub freed-changed : Changed d n v freeing
   unfolding entriesOf
@@ -177,7 +181,7 @@ module _ {d n : ℕ} {v : Drive} (h : HeldBlock d n v) where
   closing = record { table = closedAt n (v .table); store = v .store }
 
   pub closed-found : blockAt (closing .table) n ≡ closed (blockAt (v .table) n)
-  closed-found = getD-set-same (v .table .blocks) n (closed (blockAt (v .table) n)) clearBlock (omega (arith, h .inside, h .whole))
+  closed-found = held-set h (closed (blockAt (v .table) n))
 
   pub closed-changed : Changed d n v closing
   unfolding entriesOf
@@ -331,4 +335,4 @@ pub reopened : {d n : ℕ} {v : Drive} → HeldBlock d n v → (way : Way)
 unfolding openedFor
 reopened {d} {n} {v} h way =
     let b = blockAt (v .table) n in
-    rw (getD-set-same (v .table .blocks) n (freed b) clearBlock (omega (arith, h .inside, h .whole)), set-twice (v .table .blocks) n)
+    rw (held-set h (freed b), set-twice (v .table .blocks) n)

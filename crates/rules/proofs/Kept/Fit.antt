@@ -5,12 +5,12 @@ use mathlib.Core.Path.{_≡_, refl}
 use native.Mathlib.Omega.{arith}
 use lib.ListN.{length}
 use borrow.Author.Tests.{eqb-true}
-use Rattle.geometry.proofs.Laws.Shape.{limits}
 use Rattle.geometry.specs.Shape.{storeLength}
 use Rattle.rules.specs.Claims.{LentOwn, Shaped}
 use Rattle.rules.specs.Drive.{Drive, size}
 use Rattle.rules.specs.Questions.{Lengths, storeFits}
 use Rattle.rules.proofs.Kept.Facts.{Facts}
+use Rattle.rules.proofs.Kept.OneBlock.{few-blocks}
 use Rattle.rules.proofs.Writes.{Ready}
 
 -- A sound table with a record for each domain and block, and the drive's own store if it is lent a whole one.
@@ -20,7 +20,7 @@ pub record Fit (v : Drive) (lent : Lengths) : Type 0 where
   pub own : LentOwn v lent
 
 pub fit-blocks : {v : Drive} {lent : Lengths} → Fit v lent → size (v .table) ≤ length (v .table .blocks)
-fit-blocks {v} f = omega (arith, f .shaped .blocks, limits (v .table .config) (f .facts .limits) .ranges .blocks .most)
+fit-blocks {v} f = omega (arith, f .shaped .blocks, few-blocks (f .facts))
 
 pub fit-ready : {v : Drive} {lent : Lengths} → Fit v lent → storeFits (v .table) lent ≡ true → Ready (v .table .config) v
 fit-ready {v} {lent} f e = record {

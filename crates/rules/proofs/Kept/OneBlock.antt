@@ -231,6 +231,10 @@ held-owned v d n f p l e =
     let b = blockAt (v .table) n in
     state-owned (v .table) (b .state) b (f .blocks n l) (omega (arith, p, eqb-true (b .holder) d e))
 
+-- A sound table has at most 256 blocks.
+pub few-blocks : {v : Drive} → Facts v → size (v .table) ≤ 256
+few-blocks {v} f = limits (v .table .config) (f .limits) .ranges .blocks .most
+
 -- A Free block has no holder.
 pub free-nobody : (t : Table) (s : State) (b : Block) → isFreeState s ≡ true → StateFacts t s b → b .holder ≡ 0
 free-nobody t Free b e f = f .holder

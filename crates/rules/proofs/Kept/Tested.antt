@@ -19,9 +19,9 @@ use Rattle.rules.specs.Domains.{coverage, reservedBy}
 use Rattle.rules.specs.Drive.{Drive, blockAt, clearDomain, domainAt, eachDomain, heldBy, heldCount, isFree, isFreeState, isPlacedState, openCount, size}
 use Rattle.rules.specs.Observation.{Holding, holdingAt}
 use Rattle.rules.specs.Soundness.{countsKept, eachPair, freeIsClear, holderExists, missingIsClear, openLimitKept, placementExists, placementsDiffer, quotaKept, sameHolder, samePlacement, serialGiven, serialsDiffer, sound}
-use Rattle.rules.proofs.Counting.{all-each, clash, each-all, sum-alone, sum-two}
+use Rattle.rules.proofs.Counting.{all-each, clash, each-all, sum-alone}
 use Rattle.rules.proofs.Kept.Facts.{BlockFacts, DomainFacts, Existing, Facts, FreeFacts, Owned, StateFacts}
-use Rattle.rules.proofs.Kept.Views.{ifPlaced, ifSerial, view, weight}
+use Rattle.rules.proofs.Kept.Views.{ifPlaced, ifSerial, view, view-two}
 use Rattle.rules.proofs.Soundness.{Clauses, apart, together}
 
 -- ---- Tests
@@ -241,7 +241,7 @@ domain-of t d q o m =
 abbrev Marked : Drive → ℕ → (Holding → Bool) → ℕ → Type 0
 Marked v d p n = (heldBy d (blockAt (v .table) n) ≡ true) × (p (holdingAt v n) ≡ true)
 
--- A view of ones and zeros: at most 1 where no two blocks of the domain have ones, ..
+-- A view of ones and zeros is at most 1 where no two blocks of the domain pass the test.
 view-alone : (v : Drive) (d : ℕ) (p : Holding → Bool)
     → ((n m : ℕ) → n < size (v .table) → m < n → Marked v d p n → Marked v d p m → ⊥)
     → view (λ h. cond (p h) 1 0) d v ≤ 1
@@ -261,16 +261,6 @@ view-alone v d p alone =
     marked true true l = (refl, refl)
     marked true false l = absurd (omega (arith, l))
     marked false b l = absurd (omega (arith, l))
-
--- .. and at least 2 where two have.
-view-two : (v : Drive) (d : ℕ) (p : Holding → Bool) (n m : ℕ) → n < size (v .table) → m < n → Marked v d p n → Marked v d p m
-    → 2 ≤ view (λ h. cond (p h) 1 0) d v
-unfolding view
-view-two v d p n m l k x y =
-    let q : Holding → ℕ = λ h. cond (p h) 1 0 in
-    let one : weight q d v n ≡ 1 = rw (x .0, x .1) in
-    let other : weight q d v m ≡ 1 = rw (y .0, y .1) in
-    omega (arith, sum-two (size (v .table)) (weight q d v) n m l (omega arith) (λ e. omega arith))
 
 -- Two blocks open for one placement, as a test and by the placement.
 placed-same : (p : ℕ) (s other : State) → isPlacedState p s ≡ true → isPlacedState p other ≡ true → samePlacement s other ≡ true
@@ -400,7 +390,7 @@ module _ (v : Drive) (f : Facts v) where
       omega (
         arith,
         most d (owned-by (v .table) b (f .blocks n l) (w .taken) .low),
-        view-two v d p n m l k (eq-eqb d d refl, x) (eq-eqb (blockAt (v .table) m .holder) d (w .same), y),
+        view-two v d p n m l (omega arith) (λ same. omega arith) (eq-eqb d d refl) (eq-eqb (blockAt (v .table) m .holder) d (w .same)) x y,
       )
 
   -- Every two blocks pass, ..

@@ -1,7 +1,7 @@
 -- The abstract state of a domain: its record with, for every weight q, the sum of q over the blocks that it holds. Two drives are
 -- alike for a domain if these are the same; how many blocks it holds, how many are open, which serials there are, all are such sums.
 use Prim.Native.Nat.{ℕ, _+_, _≤_, _<_}
-use mathlib.Core.Bool.{false, cond}
+use mathlib.Core.Bool.{Bool, true, false, cond}
 use mathlib.Core.Path.{_≡_, refl, sym, ap, _∙_}
 use native.Mathlib.Omega.{arith}
 use lib.Dec.{eqb}
@@ -12,7 +12,7 @@ use Rattle.rules.specs.Blocks.{withLast}
 use Rattle.rules.specs.Counting.{sumTo}
 use Rattle.rules.specs.Drive.{Drive, blockAt, closedCount, domainAt, heldBy, heldCount, isClosedState, isOpenState, isPlacedState, openCount, size}
 use Rattle.rules.specs.Observation.{Holding, entriesOf, holdingAt}
-use Rattle.rules.proofs.Counting.{sum-at, sum-same}
+use Rattle.rules.proofs.Counting.{sum-at, sum-same, sum-two}
 
 -- ---- Views
 
@@ -51,6 +51,18 @@ pub closed-view : (v : Drive) (d : ℕ) → closedCount (v .table) d ≡ view if
 unfolding closedCount view
 closed-view v d =
     sum-same (size (v .table)) _ _ (λ n l. by-test (heldBy d (blockAt (v .table) n)) (λ e. rw e) (λ e. rw e))
+
+-- A view of ones and zeros is at least 2 where two blocks of the domain pass the test.
+pub view-two : (v : Drive) (d : ℕ) (p : Holding → Bool) (n m : ℕ) → n < size (v .table) → m < size (v .table) → ¬ (n ≡ m)
+    → heldBy d (blockAt (v .table) n) ≡ true → heldBy d (blockAt (v .table) m) ≡ true
+    → p (holdingAt v n) ≡ true → p (holdingAt v m) ≡ true
+    → 2 ≤ view (λ h. cond (p h) 1 0) d v
+unfolding view
+view-two v d p n m l k other held held' x y =
+    let q : Holding → ℕ = λ h. cond (p h) 1 0 in
+    let one : weight q d v n ≡ 1 = rw (held, x) in
+    let another : weight q d v m ≡ 1 = rw (held', y) in
+    omega (arith, sum-two (size (v .table)) (weight q d v) n m l k other)
 
 -- Two drives that a domain cannot tell apart.
 pub record Alike (a : ℕ) (v w : Drive) : Type 0 where

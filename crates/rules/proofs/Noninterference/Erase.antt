@@ -7,7 +7,7 @@ use mathlib.Core.Path.{_≡_, refl, sym, ap, ap₂, _∙_, subst}
 use native.Mathlib.Omega.{arith}
 use lib.Dec.{eqb}
 use borrow.Author.Tests.{eq-eqb, eqb-true, ltb-true, ne-eqb}
-use Rattle.geometry.proofs.Laws.Shape.{by-test, limits}
+use Rattle.geometry.proofs.Laws.Shape.{by-test}
 use Rattle.geometry.specs.Address.{isBlock}
 use Rattle.model.specs.declared.block.Way.the-variants as way
 use Rattle.model.specs.declared.command.Command.the-variants.{Erase}
@@ -22,6 +22,7 @@ use Rattle.rules.specs.Questions.{Lengths, coveredAfter, isErasable, isE
 use Rattle.rules.proofs.Kept.Calls.{course-fit}
 use Rattle.rules.proofs.Kept.Erasing.{again-is, again-opens, any-opens}
 use Rattle.rules.proofs.Kept.Fit.{Fit}
+use Rattle.rules.proofs.Kept.OneBlock.{few-blocks}
 use Rattle.rules.proofs.Kept.Views.{Alike}
 use Rattle.rules.proofs.Noninterference.Blocks.{blockTold, freed-alike, opened-alike, opened-same}
 use Rattle.rules.proofs.Noninterference.Common.{Pair, covered-same, exists-same, fits-same, holding-same, inside-other, inside-same, may-open-same, number-same, own-other, quota-same, serials-same, sound-same}
@@ -56,12 +57,6 @@ module _ {a : ℕ} {v w : Drive} (p : Pair a v w) (lent : Lengths) (n m : ℕ) (
 
   not-any : (x : Drive) (k : ℕ) → size (x .table) ≤ 256 → isBlock (x .table .config) k ≡ true → eqb k anyBlock ≡ false
   not-any x k few inside = ne-eqb k anyBlock (λ e. absurd (omega (arith, e, few, ltb-true k (size (x .table)) inside)))
-
-  few-left : size t ≤ 256
-  few-left = limits (t .config) (p .left .facts .limits) .ranges .blocks .most
-
-  few-right : size u ≤ 256
-  few-right = limits (u .config) (p .right .facts .limits) .ranges .blocks .most
 
   -- What holds where a held block is named, and where FFFFFFFFh is, holds of an Erase in range.
   by-name : {P : Type 0} → isErasable t n ≡ true
@@ -105,8 +100,8 @@ module _ {a : ℕ} {v w : Drive} (p : Pair a v w) (lent : Lengths) (n m : ℕ) (
   again-same range =
       by-name range
       (λ inside.
-      again-held v n few-left inside (named-held inside)
-      ∙ sym (again-held w m few-right (inside-other p n m same inside) (own-other p n m same inside (named-held inside))))
+      again-held v n (few-blocks (p .left .facts)) inside (named-held inside)
+      ∙ sym (again-held w m (few-blocks (p .right .facts)) (inside-other p n m same inside) (own-other p n m same inside (named-held inside))))
       (λ e f out. again-any t n e ∙ sym (again-any u m f))
 
   closed-same : isErasable t n ≡ true
@@ -188,13 +183,13 @@ module _ {a : ℕ} {v w : Drive} (p : Pair a v w) (lent : Lengths) (n m : ℕ) (
         let h = named-held inside in
         let inside' = inside-other p n m same inside in
         let h' = own-other p n m same inside h in
-        let x = again-opens v lent fit-left a n e (not-any v n few-left inside) h in
-        let y = again-opens w lent fit-right a m f (not-any w m few-right inside') h' in
+        let x = again-opens v lent fit-left a n e (not-any v n (few-blocks (p .left .facts)) inside) h in
+        let y = again-opens w lent fit-right a m f (not-any w m (few-blocks (p .right .facts)) inside') h' in
         let freed = free-alike inside h in
-        let i = again-is v lent fit-left a n e (not-any v n few-left inside) h in
-        let j = again-is w lent fit-right a m f (not-any w m few-right inside') h' in
-        subst (λ (z : Effect). Opened z (effect (Erase a m) w)) (sym (erase-opens v n n (erased-named v n few-left inside)))
-        (subst (Opened (opensBlock v n)) (sym (erase-opens w m m (erased-named w m few-right inside')))
+        let i = again-is v lent fit-left a n e (not-any v n (few-blocks (p .left .facts)) inside) h in
+        let j = again-is w lent fit-right a m f (not-any w m (few-blocks (p .right .facts)) inside') h' in
+        subst (λ (z : Effect). Opened z (effect (Erase a m) w)) (sym (erase-opens v n n (erased-named v n (few-blocks (p .left .facts)) inside)))
+        (subst (Opened (opensBlock v n)) (sym (erase-opens w m m (erased-named w m (few-blocks (p .right .facts)) inside')))
         (opened-effects n m
         (subst (λ (z : Drive). Alike a z (openedFor a way.Erase m w)) i
         (subst (λ (z : Drive). Alike a (openedFor a way.Erase n (freeing v n)) z) j (opened-alike freed (x .block) (y .block) way.Erase)))

@@ -13,9 +13,9 @@ use Rattle.model.specs.declared.block.Way.{Way}
 use Rattle.model.specs.declared.block.Way.the-variants.{Erase, Placement}
 use Rattle.rules.specs.Drive.{Drive, blockAt, heldBy, size}
 use Rattle.rules.specs.Observation.{Holding, Holds, SameHoldings, holdingAt, serialAt}
-use Rattle.rules.proofs.Counting.{by-eq, sum-some, sum-term, sum-two}
+use Rattle.rules.proofs.Counting.{by-eq, sum-some, sum-term}
 use Rattle.rules.proofs.Kept.Facts.{Facts}
-use Rattle.rules.proofs.Kept.Views.{Alike, alike-back, ifSerial, view, weight}
+use Rattle.rules.proofs.Kept.Views.{Alike, alike-back, view, view-two, weight}
 
 -- ---- A test for equal holdings
 
@@ -155,18 +155,11 @@ partner {a} {v} {w} s n h =
     passes m =
         by-test (sameHolding (holdingAt v n) (holdingAt w m)) (λ e p. e) (λ e. rw e (λ p. absurd (omega (arith, p))))
 
--- Of a domain's blocks no two have one serial.
-one-serial : {a : ℕ} {v : Drive} → 1 ≤ a → Facts v → (n m : ℕ) → Holds a v n → Holds a v m → serialAt v n ≡ serialAt v m → n ≡ m
-unfolding view
-one-serial {a} {v} p f n m h k same =
-    by-eq n m (λ e. e) (λ other.
-    let q = ifSerial (serialAt v m) in
-    let two = sum-two (size (v .table)) (weight q a v) n m (h .0) (k .0) other in
-    absurd (omega (
-      arith,
-      f .unique a (serialAt v m) p,
-      rw (h .1, k .1, eq-eqb (serialAt v n) (serialAt v m) same, eq-eqb (serialAt v m) (serialAt v m) refl) at two,
-    )))
+-- Where a view of ones and zeros is at most 1, two blocks of the domain that pass the test are one.
+pub one-block : (a : ℕ) (v : Drive) (p : Holding → Bool) → view (λ h. cond (p h) 1 0) a v ≤ 1 → (n m : ℕ) → Holds a v n → Holds a v m
+    → p (holdingAt v n) ≡ true → p (holdingAt v m) ≡ true → n ≡ m
+one-block a v p most n m h k x y =
+    by-eq n m (λ e. e) (λ other. absurd (omega (arith, most, view-two v a p n m (h .0) (k .0) other (h .1) (k .1) x y)))
 
 -- Blocks with one serial have equal holdings.
 pub paired : {a : ℕ} {v w : Drive} → 1 ≤ a → Facts w → Alike a v w → (n m : ℕ) → Holds a v n → Holds a w m → serialAt v n ≡ serialAt w m
@@ -174,7 +167,11 @@ pub paired : {a : ℕ} {v w : Drive} → 1 ≤ a → Facts w → Alike a v w →
 paired {a} {v} {w} p f s n m h k same =
     let x = partner s n h in
     let equal = ap (λ (y : Holding). y .serial) (x .2) in
-    subst (λ (i : ℕ). holdingAt v n ≡ holdingAt w i) (one-serial p f (x .0) m (x .1) k (sym equal ∙ same)) (x .2)
+    let serial = serialAt w m in
+    let one =
+    one-block a w (λ h. eqb (h .serial) serial) (f .unique a serial p) (x .0) m (x .1) k
+    (eq-eqb (serialAt w (x .0)) serial (sym equal ∙ same)) (eq-eqb serial serial refl) in
+    subst (λ (i : ℕ). holdingAt v n ≡ holdingAt w i) one (x .2)
 
 pub same-holdings : {a : ℕ} {v w : Drive} → 1 ≤ a → Facts w → Alike a v w → SameHoldings a v w
 same-holdings {a} {v} {w} p f s = record {

@@ -7,7 +7,7 @@ use native.Mathlib.Omega.{arith}
 use lib.Dec.{eqb, leb}
 use lib.ListN.{List·getD-eq-default, drop, take}
 use borrow.Author.Tests.{leb-true, ltb-true}
-use Rattle.geometry.proofs.Laws.Shape.{both, limits}
+use Rattle.geometry.proofs.Laws.Shape.{both}
 use Rattle.geometry.specs.Address.{fieldsOf, isBlock, isOffset}
 use Rattle.geometry.specs.Shape.{adusPerBlock}
 use Rattle.geometry.specs.declared.address.FlashAddress.{FlashAddress}
@@ -29,7 +29,7 @@ use Rattle.rules.specs.Questions.{Lengths, isCount, isHeld, questions}
 use Rattle.rules.proofs.Kept.Calls.{Course}
 use Rattle.rules.proofs.Kept.Entries.{stored-entries}
 use Rattle.rules.proofs.Kept.Facts.{StateFacts}
-use Rattle.rules.proofs.Kept.OneBlock.{open-alike}
+use Rattle.rules.proofs.Kept.OneBlock.{few-blocks, open-alike}
 use Rattle.rules.proofs.Kept.Views.{Alike, closed-view, ifClosed}
 use Rattle.rules.proofs.Noninterference.Common.{Pair, exists-same, fits-same, holding-same, inside-other, inside-same, own-other, own-same, sound-same}
 use Rattle.rules.proofs.Noninterference.Readings.{closed-read, open-read, page-read}
@@ -46,9 +46,6 @@ written-most t (state.Open way) b f = omega (arith, f .written)
 written-most t (state.Closed way) b f = f .written
 
 module _ (v : Drive) (c : Course v) where
-  few-blocks : size (v .table) ≤ 256
-  few-blocks = limits (v .table .config) (c .facts .limits) .ranges .blocks .most
-
   -- The end mark of a list names no block.
   end-serial : serialAt v 4294967295 ≡ 0
   end-serial =
@@ -56,7 +53,7 @@ module _ (v : Drive) (c : Course v) where
       (List·getD-eq-default (v .table .blocks) clearBlock {n = 4294967295} (omega (arith, c .shaped .blocks)))
 
   course-ready : Ready (v .table .config) v
-  course-ready = record { shape = refl; blocks = omega (arith, c .shaped .blocks, few-blocks); store = c .store }
+  course-ready = record { shape = refl; blocks = omega (arith, c .shaped .blocks, few-blocks (c .facts)); store = c .store }
 
   -- What is written of a block and read stands in its entries.
   read-entries : (f : FlashAddress) (count : Adus) → isBlock (v .table .config) (f .block) ≡ true
@@ -103,7 +100,7 @@ module _ {a : ℕ} {v w : Drive} (p : Pair a v w) (lent : Lengths) where
     pages-same : isBlock (v .table .config) n ≡ true → heldBy a (blockAt (v .table) n) ≡ true
         → readPage v (page (v .table) n) ≡ readPage w (page (w .table) m)
     pages-same inside own =
-        page-read a v w n m (p .alike) (few-blocks v (p .left))
+        page-read a v w n m (p .alike) (few-blocks (p .left .facts))
         (ltb-true n (size (v .table)) inside) (ltb-true m (size (w .table)) (inside-other p n m same inside))
         own (own-other p n m same inside own) (holding-same p n m same inside own)
 
@@ -144,10 +141,10 @@ module _ {a : ℕ} {v w : Drive} (p : Pair a v w) (lent : Lengths) where
   lists-same : (which : Listed) (bytes other : List ℕ) → Fills (Listing a which) (v .table) bytes
       → Fills (Listing a which) (w .table) other → timesListed (readList v bytes) ≡ timesListed (readList w other)
   lists-same listed.Open bytes other b o =
-      open-read a v w bytes other (p .alike) (few-blocks v (p .left)) (end-serial v (p .left)) (end-serial w (p .right)) b o
+      open-read a v w bytes other (p .alike) (few-blocks (p .left .facts)) (end-serial v (p .left)) (end-serial w (p .right)) b o
   lists-same listed.Closed bytes other b o =
       rw (b, o)
-      (closed-read a v w (p .alike) (few-blocks v (p .left)) (end-serial v (p .left)) (end-serial w (p .right)))
+      (closed-read a v w (p .alike) (few-blocks (p .left .facts)) (end-serial v (p .left)) (end-serial w (p .right)))
 
   list-told : (which : Listed) (bytes other : List ℕ) → Fills (Listing a which) (v .table) bytes
       → Fills (Listing a which) (w .table) other → told v (Listing a which) bytes ≡ told w (Listing a which) other

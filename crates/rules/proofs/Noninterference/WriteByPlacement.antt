@@ -18,22 +18,21 @@ use Rattle.model.specs.declared.block.Way.the-variants.{Placement}
 use Rattle.model.specs.declared.command.Command.the-variants.{WriteByPlacement}
 use Rattle.model.specs.declared.table.Domain.{Domain}
 use Rattle.rules.specs.Blocks.{Written, chosenBlock, newBlocks, openedFor, roomIn, userAddresses, writtenByPlacement, writtenInto, writtenOnwards}
-use Rattle.rules.specs.Drive.{Drive, blockAt, heldBy, isOpenFor, isPlacedState, openBlock, size}
+use Rattle.rules.specs.Drive.{Drive, blockAt, heldBy, isPlacedState, openBlock, size}
 use Rattle.rules.specs.Effects.{effect, verdict}
 use Rattle.rules.specs.Observation.{Holding, Holds, holdingAt, readAddress, serialAt}
 use Rattle.rules.specs.Questions.{Lengths, coveredAfter, isCount, mayOpenFor, questions, serialsLeft, withinQuota}
-use Rattle.rules.proofs.Counting.{by-eq, sum-two}
 use Rattle.rules.proofs.Kept.Asked.{placement-asked}
 use Rattle.rules.proofs.Kept.Calls.{course-fit}
 use Rattle.rules.proofs.Kept.Changes.{Writable, opened-changed, written-changed, written-held}
 use Rattle.rules.proofs.Kept.Facts.{Facts}
 use Rattle.rules.proofs.Kept.Onwards.{Onward, OpenTo, fill-config, next-block, next-onward, next-openable, next-writable, onward-sequel, open-to}
 use Rattle.rules.proofs.Kept.Placement.{Asked, first-writable, firstOf, newFor, none-onward, placement-is, restOf, some-onward}
-use Rattle.rules.proofs.Kept.Views.{Alike, alike-back, ifPlaced, view, weight}
+use Rattle.rules.proofs.Kept.Views.{Alike, alike-back}
 use Rattle.rules.proofs.Noninterference.Addresses.{map-append}
 use Rattle.rules.proofs.Noninterference.Blocks.{opened-alike, opened-same, written-alike, written-same}
 use Rattle.rules.proofs.Noninterference.Common.{Pair, covered-same, exists-same, fits-same, may-open-same, quota-same, serials-same, sound-same}
-use Rattle.rules.proofs.Noninterference.Pairing.{partner}
+use Rattle.rules.proofs.Noninterference.Pairing.{one-block, partner}
 use Rattle.rules.proofs.Noninterference.Twins.{Twin, ask-same, told}
 use Rattle.rules.proofs.Noninterference.WriteByBlock.{addressesTold, written-read}
 use Rattle.rules.proofs.Writes.{Ready, onwards-some, onwards-zero}
@@ -194,15 +193,6 @@ onward-same a p users {k} {k'} {r} {r'} {v} {w} e f s o o' =
 
 -- ---- The placement's open block in both
 
--- A placement has one open block at most.
-one-placed : {a : ℕ} {v : Drive} (p : ℕ) → 1 ≤ a → Facts v → (n m : ℕ) → Holds a v n → Holds a v m
-    → isOpenFor p (blockAt (v .table) n) ≡ true → isOpenFor p (blockAt (v .table) m) ≡ true → n ≡ m
-unfolding view
-one-placed {a} {v} p low f n m h k x y =
-    by-eq n m (λ e. e) (λ other.
-    let two = sum-two (size (v .table)) (weight (ifPlaced p) a v) n m (h .0) (k .0) other in
-    absurd (omega (arith, f .single a p low, rw (h .1, k .1, x, y) at two)))
-
 -- None is open in both, or one is with the same holding.
 abbrev SameOpen : ℕ → Drive → Drive → Option ℕ → Option ℕ → Type 0
 SameOpen a v w none none = Unit {0}
@@ -226,7 +216,7 @@ same-open a p v w low f s (some n) none o o' =
 same-open a p v w low f s (some n) (some m) o o' =
     let x = partner s n (o .0, o .1) in
     let placed = ap (λ (h : Holding). isPlacedState p (h .state)) (sym (x .2)) ∙ o .2 in
-    subst (λ (i : ℕ). holdingAt v n ≡ holdingAt w i) (one-placed p low f (x .0) m (x .1) (o' .0, o' .1) placed (o' .2)) (x .2)
+    subst (λ (i : ℕ). holdingAt v n ≡ holdingAt w i) (one-block a w (λ h. isPlacedState p (h .state)) (f .single a p low) (x .0) m (x .1) (o' .0, o' .1) placed (o' .2)) (x .2)
 
 module _ {a : ℕ} {v w : Drive} (p : Pair a v w) (k : ℕ) where
   abbrev found : Option ℕ
