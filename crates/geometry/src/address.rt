@@ -87,7 +87,7 @@ fn first_no(limits: bool, domain: bool, range: bool) -> Verdict
     Verdict::Pass
 }
 
-fn is_domain_id(domain: u64) -> bool
+pub fn is_domain_id(domain: u64) -> bool
     ensures { λ r. ⌜ r ≡ isDomainId domain ⌝ }
 {
     (1 <= domain) & (domain <= 16)

@@ -2,7 +2,7 @@
 ghost use mathlib.Core.Bool.{true};
 ghost use mathlib.Core.Path.{_≡_};
 ghost use Prim.Native.Nat.{_+_, _-_, _/_, _<_, min};
-ghost use Rattle.geometry.specs.Shape.{adusPerBlock, between, counted, eachInRange};
+ghost use Rattle.geometry.specs.Shape.{adusPerBlock, between, counted, drivePlanes, eachInRange};
 ghost use Rattle.geometry.specs.Shape.{planesPerBlock, storeLength, stretchStart, wholeBlocks, withinLimits};
 
 // The seven numbers of a drive, in document 01's order, with its letters.
@@ -80,6 +80,18 @@ pub fn planes_per_block(config: Config) -> Planes
 {
     if within_limits(config) {
         block_planes(config)
+    } else {
+        Planes(0)
+    }
+}
+
+// S × W, or 0 outside the limits.
+pub fn drive_planes(config: Config) -> Planes
+    ensures { λ r. ⌜ r .0 ≡ counted config (drivePlanes config .0) ⌝ }
+{
+    if within_limits(config) {
+        let w = block_planes(config);
+        Planes(config.blocks * w.0)
     } else {
         Planes(0)
     }

@@ -35,10 +35,10 @@ in-order v lent (Listing d which) = refl
 in-order v lent (Pulse seconds) = refl
 
 -- The answer to the k-th question of a list without a no.
-abbrev holdsAt : ℕ → List Question → Bool
+abbrev pub holdsAt : ℕ → List Question → Bool
 holdsAt k qs = getD qs k (ask 1 true) .holds
 
-yes-at : (k : ℕ) (qs : List Question) → positive qs ≡ true → firstNo qs ≡ 0 → holdsAt k qs ≡ true
+pub yes-at : (k : ℕ) (qs : List Question) → positive qs ≡ true → firstNo qs ≡ 0 → holdsAt k qs ≡ true
 unfolding positive
 yes-at k [] p e = refl
 yes-at zero (q ∷ qs) p e =

@@ -1,0 +1,11 @@
+-- Laws that the functions' proofs share.
+pub mod Refusals
+pub mod Answering
+pub mod Surveying
+pub mod Covering
+pub mod Rows
+pub mod Stretches
+pub mod Changed
+pub mod Chosen
+pub mod Erasing
+pub mod Reserving
