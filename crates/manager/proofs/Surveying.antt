@@ -91,7 +91,7 @@ two-holders s p false false = refl
 -- ---- The whole
 
 -- Two tests of which each passes where the other does are the same.
-same-test : (a b : Bool) → (a ≡ true → b ≡ true) → (b ≡ true → a ≡ true) → a ≡ b
+pub same-test : (a b : Bool) → (a ≡ true → b ≡ true) → (b ≡ true → a ≡ true) → a ≡ b
 same-test true b there back = sym (there refl)
 same-test false true there back = back refl
 same-test false false there back = refl

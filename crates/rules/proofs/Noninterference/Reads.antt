@@ -40,7 +40,7 @@ use Rattle.rules.proofs.Writes.{Ready}
 -- ---- A drive in the course of a list of calls
 
 -- No block has more written than it holds.
-written-most : (t : Table) (s : State) (b : Block) → StateFacts t s b → b .written .0 ≤ adusPerBlock (t .config) .0
+pub written-most : (t : Table) (s : State) (b : Block) → StateFacts t s b → b .written .0 ≤ adusPerBlock (t .config) .0
 written-most t state.Free b f = omega (arith, f .written)
 written-most t (state.Open way) b f = omega (arith, f .written)
 written-most t (state.Closed way) b f = f .written
