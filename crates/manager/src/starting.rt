@@ -1,13 +1,13 @@
 // Starting a drive.
-use crate::records::clear_block;
-use crate::records::clear_domain;
 use geometry::Config;
 use geometry::within_limits;
 use model::Answer;
 use model::Refusal;
 use model::Table;
+use tables::clear_block;
+use tables::clear_domain;
 ghost use mathlib.Core.Path.{_≡_};
-ghost use Rattle.manager.specs.Serving.{begun};
+ghost use Rattle.manager.specs.Starting.{begun};
 ghost use Rattle.rules.specs.Start.{emptyTable, started};
 
 pub struct Started {

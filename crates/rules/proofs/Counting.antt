@@ -4,6 +4,7 @@ use mathlib.Core.Bool.{Bool, true, false, true≢false, _&&_, _||_, cond}
 use mathlib.Core.List.{List, [], _∷_, _++_}
 use mathlib.Core.Path.{_≡_, refl, sym, ap₂, _∙_}
 use native.Mathlib.Nat.{add-mul}
+use native.Mathlib.Numerals.{add-one}
 use native.Mathlib.Omega.{arith}
 use lib.Dec.{eqb, ltb}
 use lib.ListN.{getD, length, length-append, List·getD-append}
@@ -114,7 +115,32 @@ count-one (suc n) m l =
     (λ e. rw (eq-eqb m n e) (omega (arith, sum-zero n (λ i. cond (eqb m i) 1 0) (λ i k. rw (ne-eqb m i (λ q. omega arith))))))
     (λ e. rw (ne-eqb m n e) (omega (arith, count-one n m (omega arith))))
 
+-- Over no numbers, and over one number more.
+pub sum-none : (f : ℕ → ℕ) → sumTo f 0 ≡ 0
+unfolding sumTo
+sum-none f = refl
+
+pub sum-next : (f : ℕ → ℕ) (n : ℕ) → sumTo f (n + 1) ≡ sumTo f n + f n
+unfolding sumTo
+sum-next f n = rw add-one
+
+-- One test counts one at most, and a count of n numbers is n at most.
+pub bit-most : (b : Bool) → cond b 1 0 ≤ 1
+bit-most true = omega arith
+bit-most false = omega arith
+
+pub count-most : (p : ℕ → Bool) (n : ℕ) → countTo p n ≤ n
+unfolding sumTo
+count-most p zero = omega arith
+count-most p (suc n) = omega (arith, count-most p n, bit-most (p n))
+
 -- ---- Tests
+
+-- Two tests of which each passes where the other does are the same.
+pub same-test : (a b : Bool) → (a ≡ true → b ≡ true) → (b ≡ true → a ≡ true) → a ≡ b
+same-test true b there back = sym (there refl)
+same-test false true there back = back refl
+same-test false false there back = refl
 
 pub each-all : (n : ℕ) (p : ℕ → Bool) → ((i : ℕ) → i < n → p i ≡ true) → allTo p n ≡ true
 unfolding allTo
@@ -126,6 +152,21 @@ unfolding allTo
 all-each zero p e i l = absurd (omega (arith, l))
 all-each (suc n) p e i l =
     let h = both (allTo p n) (p n) e in by-eq i n (λ same. rw same (h .1)) (λ other. all-each n p (h .0) i (omega arith))
+
+-- Over no numbers, and over one number more.
+pub all-none : (p : ℕ → Bool) → allTo p 0 ≡ true
+unfolding allTo
+all-none p = refl
+
+pub all-next : (p : ℕ → Bool) (n : ℕ) → allTo p (n + 1) ≡ allTo p n && p n
+unfolding allTo
+all-next p n = rw add-one
+
+-- Tests that are the same below n are the same for all of these.
+pub all-same : (n : ℕ) (p q : ℕ → Bool) → ((i : ℕ) → i < n → p i ≡ q i) → allTo p n ≡ allTo q n
+unfolding allTo
+all-same zero p q h = refl
+all-same (suc n) p q h = ap₂ _&&_ (all-same n p q (λ i l. h i (omega arith))) (h n (omega arith))
 
 -- ---- Rows
 

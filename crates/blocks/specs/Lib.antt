@@ -1,0 +1,2 @@
+-- What opening a block needs.
+pub mod Opening

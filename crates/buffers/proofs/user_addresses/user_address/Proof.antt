@@ -1,0 +1,23 @@
+-- All ones where the start is all ones, else the start and so many more.
+use Prim.Native.Nat.{_+_}
+use mathlib.Core.Path.{sym}
+use native.Mathlib.Omega.{arith}
+use borrow.Author.Tests.{eq-eqb, ne-eqb}
+use Rattle.buffers.proofs.UserAddresses.{fit-end, ones-address, plain-address}
+use Rattle.rules.specs.Blocks.{allOnes}
+use Rattle.buffers.proofs.user_addresses.user_address.Statement.{statement}
+use Rattle.buffers.proofs.user_addresses.user_address.Tie as tie
+
+add-result : tie.Need-add-result
+add-result c =
+    let z = c .before .args in
+    omega (arith, fit-end (z .start) (z .i + 1) (omega arith) (omega arith) (ne-eqb (z .start) allOnes (c .if1 .left)) (c .before .pre) .1)
+
+returns : tie.Need-returns
+returns c = let z = c .before .args in sym (ones-address (z .start) (z .i) (eq-eqb (z .start) allOnes (c .if1 .taken)))
+
+returns-2 : tie.Need-returns-2
+returns-2 c = let z = c .before .args in sym (plain-address (z .start) (z .i) (ne-eqb (z .start) allOnes (c .if1 .left)))
+
+pub user-address-spec : {M : Type 1} → statement M
+user-address-spec = tie.close (tie.spec add-result returns returns-2)

@@ -1,0 +1,2 @@
+-- The entries of a row that is filled in.
+pub mod Rows

@@ -1,0 +1,2 @@
+-- What is made of a domain's new record.
+pub mod Reserving

@@ -1,0 +1,42 @@
+-- In a sound table a domain's blocks are open or Closed.
+use Prim.Native.Nat.{ℕ, _+_, _≤_}
+use mathlib.Core.Bool.{Bool, true, false, _&&_, cond}
+use mathlib.Core.List.{[]}
+use mathlib.Core.Path.{_≡_, refl, _∙_}
+use native.Mathlib.Omega.{arith}
+use borrow.Author.Tests.{ne-eqb}
+use Rattle.tables.specs.Serving.{drive}
+use Rattle.model.specs.declared.block.Block.{Block}
+use Rattle.model.specs.declared.block.State.{State}
+use Rattle.model.specs.declared.block.State.the-variants.{Closed, Free, Open}
+use Rattle.model.specs.declared.table.Table.{Table}
+use Rattle.rules.proofs.Counting.{sum-add, sum-same}
+use Rattle.rules.proofs.Kept.Facts.{BlockFacts, StateFacts}
+use Rattle.rules.proofs.Kept.Tested.{facts-of}
+use Rattle.rules.specs.Drive.{blockAt, closedCount, closedOf, heldBy, heldCount, isClosedState, isOpenState, openCount, openOf, size}
+use Rattle.rules.specs.Soundness.{sound}
+
+-- A block that a domain holds is one of the two.
+open-or-closed : (t : Table) (b : Block) (d : ℕ) → BlockFacts t b → 1 ≤ d
+    → cond (heldBy d b) 1 0 ≡ cond (openOf d b) 1 0 + cond (closedOf d b) 1 0
+open-or-closed t b d f l = go (b .state) f
+  where
+    test : (x : Bool) → (cond x 1 0 ≡ cond (x && true) 1 0 + cond (x && false) 1 0) × (cond x 1 0 ≡ cond (x && false) 1 0 + cond (x && true) 1 0)
+    test true = (refl, refl)
+    test false = (refl, refl)
+
+    go : (s : State) → StateFacts t s b
+        → cond (heldBy d b) 1 0 ≡ cond (heldBy d b && isOpenState s) 1 0 + cond (heldBy d b && isClosedState s) 1 0
+    go Free h = rw (ne-eqb (b .holder) d (λ e. omega (arith, h .holder, e, l)))
+    go (Open way) h = test (heldBy d b) .0
+    go (Closed way) h = test (heldBy d b) .1
+
+-- So it is with the counts of the whole drive.
+pub held-counts : (t : Table) (d : ℕ) → sound t ≡ true → 1 ≤ d → heldCount t d ≡ openCount t d + closedCount t d
+unfolding heldCount openCount closedCount
+held-counts t d s l =
+    let opens : ℕ → ℕ = λ i. cond (openOf d (blockAt t i)) 1 0 in
+    let closes : ℕ → ℕ = λ i. cond (closedOf d (blockAt t i)) 1 0 in
+    sum-same (size t) (λ i. cond (heldBy d (blockAt t i)) 1 0) (λ i. opens i + closes i)
+    (λ i k. open-or-closed t (blockAt t i) d (facts-of (drive t []) s .blocks i k) l)
+    ∙ sum-add (size t) opens closes

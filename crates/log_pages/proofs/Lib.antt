@@ -1,0 +1,4 @@
+-- Laws that the functions' proofs share.
+pub mod Filling
+pub mod Listing
+pub mod Holdings

@@ -1,0 +1,2 @@
+-- The two lists as they are filled in.
+pub mod LogPages

@@ -1,0 +1,298 @@
+-- The laws of the survey: how its counts grow, and that its tests together are the test of soundness.
+use Prim.Native.Nat.{ℕ, _+_, _-_, _<_, max}
+use mathlib.Core.Bool.{Bool, true, false, true≢false, not, _&&_, _||_, cond}
+use mathlib.Core.List.{List}
+use mathlib.Core.Path.{_≡_, refl, sym, ap, ap₂, _∙_}
+use native.Mathlib.Omega.{arith}
+use lib.Dec.{eqb, leb, ltb}
+use lib.ListN.{getD, length, set}
+use lib.Seq.{getD-set-same, getD-set-other}
+use borrow.Author.Tests.{eqb-false, eqb-true}
+use Rattle.geometry.proofs.Laws.Shape.{both, by-test}
+use Rattle.geometry.specs.Address.{isDomainId}
+use Rattle.geometry.specs.Shape.{adusPerBlock, between, withinLimits}
+use Rattle.geometry.specs.declared.shape.Adus.{Adus}
+use Rattle.tables.specs.Survey.{Counts, Surveyed, blockSound, blocksSound, coveredTo, domainSound, domainsSound, holderRecord, notSound, pairSound, pairsSound}
+use Rattle.tables.specs.declared.survey.Survey.{Survey}
+use Rattle.tables.specs.declared.tally.Tally.{Tally}
+use Rattle.model.specs.declared.block.Block.{Block}
+use Rattle.model.specs.declared.block.State.{State}
+use Rattle.model.specs.declared.block.State.the-variants.{Closed, Free, Open}
+use Rattle.model.specs.declared.block.Way.{Way}
+use Rattle.model.specs.declared.table.Domain.{Domain}
+use Rattle.model.specs.declared.table.Table.{Table}
+use Rattle.rules.proofs.Counting.{all-each, all-same, each-all, same-test, sum-same}
+use Rattle.rules.proofs.Soundness.{apart, together}
+use Rattle.rules.specs.Counting.{allTo}
+use Rattle.rules.specs.Domains.{coverage, reservedBy}
+use Rattle.rules.specs.Drive.{blockAt, clearDomain, domainAt, eachDomain, heldCount, openCount, size}
+use Rattle.rules.specs.Soundness.{countsKept, freeIsClear, holderExists, missingIsClear, openLimitKept, placementExists, placementsDiffer, quotaKept, serialGiven, serialsDiffer, sound, wayBelow}
+
+-- The entry h of a row of counts grows by a test q: that entry alone, and only if q holds.
+pub grown : (row : List ℕ) (h d : ℕ) (q : Bool) → h < length row
+    → getD (set row h (getD row h 0 + cond q 1 0)) d 0 ≡ getD row d 0 + cond (eqb h d && q) 1 0
+grown row h d q l = go (eqb h d) refl
+  where
+    go : (s : Bool) → eqb h d ≡ s → getD (set row h (getD row h 0 + cond q 1 0)) d 0 ≡ getD row d 0 + cond (s && q) 1 0
+    go true e = rw (← eqb-true h d e, getD-set-same row h (getD row h 0 + cond q 1 0) 0 l)
+    go false e = rw (getD-set-other row h d (getD row h 0 + cond q 1 0) 0 (λ p. eqb-false h d e (sym p))) (omega arith)
+
+-- ---- The tests of two blocks
+
+-- Of blocks of one holder the two clauses are one test: unlike in serial and placement, or one of them Free; ..
+pub one-holder : (s p f g : Bool)
+    → not ((s || p) && not f && not g) ≡ not (not f && not g && true && s) && not (not f && not g && true && p)
+one-holder true p true g = refl
+one-holder true p false true = refl
+one-holder true p false false = refl
+one-holder false true true g = refl
+one-holder false true false true = refl
+one-holder false true false false = refl
+one-holder false false true g = refl
+one-holder false false false true = refl
+one-holder false false false false = refl
+
+-- .. blocks of two holders always pass.
+pub two-holders : (s p f g : Bool)
+    → true ≡ not (not f && not g && false && s) && not (not f && not g && false && p)
+two-holders s p true g = refl
+two-holders s p false true = refl
+two-holders s p false false = refl
+
+-- ---- The whole
+
+-- Two tests that pass, pass together.
+joined : {a b : Bool} → a ≡ true → b ≡ true → a && b ≡ true
+joined e f = rw (e, f)
+
+-- The record that the survey looks up for a domain's ID is that domain's.
+holder-at : (t : Table) (b : Block) → isDomainId (b .holder) ≡ true → holderRecord t b ≡ domainAt t (b .holder)
+holder-at t b e = ap (λ n. getD (t .domains) n clearDomain) (go (isDomainId (b .holder)) e)
+  where
+    go : (s : Bool) → s ≡ true → cond s (b .holder - 1) 0 ≡ b .holder - 1
+    go true f = refl
+    go false f = absurd (true≢false (sym f))
+
+-- What the survey tests of a block, with the record that it looks up.
+abbrev testOf : Table → Block → Bool
+testOf t b = blockSound (t .config .period) (adusPerBlock (t .config) .0) (holderRecord t b) b
+
+-- The clauses of soundness that speak of one block.
+record BlockClauses (t : Table) (b : Block) : Type 0 where
+  given : serialGiven t b ≡ true
+  held : holderExists t b ≡ true
+  placed : placementExists t b ≡ true
+  counts : countsKept (adusPerBlock (t .config) .0) (t .config .period) (b .state) b ≡ true
+  clear : freeIsClear b ≡ true
+
+-- The same of a block that a domain holds, opened that way, with the test of its two counts.
+record HeldClauses (t : Table) (holder serial : ℕ) (way : Way) (counted : Bool) : Type 0 where
+  given : between 1 (domainAt t holder .last) serial ≡ true
+  held : isDomainId holder && domainAt t holder .exists ≡ true
+  placed : wayBelow (domainAt t holder .placements) way ≡ true
+  counts : counted ≡ true
+
+-- What the survey tests of such a block, x and y being the tests of its counts.
+abbrev heldTest : Domain → ℕ → ℕ → Way → Bool → Bool → Bool
+heldTest r h k way x y = isDomainId h && r .exists && between 1 (r .last) k && wayBelow (r .placements) way && x && y
+
+-- The test passes exactly where the block has the clauses, if the record is that of its holder: the clauses from the test, ..
+held-apart : (t : Table) (h k : ℕ) (r : Domain) (way : Way) (x y : Bool) → (isDomainId h ≡ true → r ≡ domainAt t h)
+    → heldTest r h k way x y ≡ true → HeldClauses t h k way (x && y)
+held-apart t h k r way x y same q =
+    let q5 = both _ y q in
+    let q4 = both _ x (q5 .0) in
+    let q3 = both _ (wayBelow (r .placements) way) (q4 .0) in
+    let q2 = both _ (between 1 (r .last) k) (q3 .0) in
+    let q1 = both (isDomainId h) (r .exists) (q2 .0) in
+    let e = same (q1 .0) in
+    record {
+      given = ap (λ d. between 1 (d .last) k) (sym e) ∙ q2 .1;
+      held = ap (λ d. isDomainId h && d .exists) (sym e) ∙ q2 .0;
+      placed = ap (λ d. wayBelow (d .placements) way) (sym e) ∙ q3 .1;
+      counts = joined (q4 .1) (q5 .1);
+    }
+
+-- .. and the test from the clauses.
+held-together : (t : Table) (h k : ℕ) (r : Domain) (way : Way) (x y : Bool) → (isDomainId h ≡ true → r ≡ domainAt t h)
+    → HeldClauses t h k way (x && y) → heldTest r h k way x y ≡ true
+held-together t h k r way x y same c =
+    let e = same (both (isDomainId h) (domainAt t h .exists) (c .held) .0) in
+    let z = both x y (c .counts) in
+    joined
+    (joined
+    (joined
+    (joined (ap (λ d. isDomainId h && d .exists) e ∙ c .held) (ap (λ d. between 1 (d .last) k) e ∙ c .given))
+    (ap (λ d. wayBelow (d .placements) way) e ∙ c .placed))
+    (z .0))
+    (z .1)
+
+-- A block passes the survey's test exactly where it has the clauses: the clauses from the test, ..
+block-apart : (t : Table) (b : Block) → testOf t b ≡ true → BlockClauses t b
+unfolding blockSound
+block-apart t b = go (b .state) (b .holder) (b .written) (b .left) (b .erases) (b .serial)
+  where
+    go : (s : State) (h : ℕ) (w : Adus) (l e k : ℕ)
+        → testOf t (record { state = s; holder = h; written = w; left = l; erases = e; serial = k }) ≡ true
+        → BlockClauses t (record { state = s; holder = h; written = w; left = l; erases = e; serial = k })
+    go Free h w l e k q = record { given = refl; held = refl; placed = refl; counts = refl; clear = q }
+    go (Open way) h w l e k q =
+        let x : Block = record { state = Open way; holder = h; written = w; left = l; erases = e; serial = k } in
+        let c = held-apart t h k (holderRecord t x) way (ltb (w .0) (adusPerBlock (t .config) .0)) (between 1 (t .config .period) l) (holder-at t x) q in
+        record { given = c .given; held = c .held; placed = c .placed; counts = c .counts; clear = refl }
+    go (Closed way) h w l e k q =
+        let x : Block = record { state = Closed way; holder = h; written = w; left = l; erases = e; serial = k } in
+        let c = held-apart t h k (holderRecord t x) way (leb (w .0) (adusPerBlock (t .config) .0)) (eqb l 0) (holder-at t x) q in
+        record { given = c .given; held = c .held; placed = c .placed; counts = c .counts; clear = refl }
+
+-- .. and the test from the clauses.
+block-together : (t : Table) (b : Block) → BlockClauses t b → testOf t b ≡ true
+unfolding blockSound
+block-together t b = go (b .state) (b .holder) (b .written) (b .left) (b .erases) (b .serial)
+  where
+    go : (s : State) (h : ℕ) (w : Adus) (l e k : ℕ)
+        → BlockClauses t (record { state = s; holder = h; written = w; left = l; erases = e; serial = k })
+        → testOf t (record { state = s; holder = h; written = w; left = l; erases = e; serial = k }) ≡ true
+    go Free h w l e k c = c .clear
+    go (Open way) h w l e k c =
+        let x : Block = record { state = Open way; holder = h; written = w; left = l; erases = e; serial = k } in
+        held-together t h k (holderRecord t x) way (ltb (w .0) (adusPerBlock (t .config) .0)) (between 1 (t .config .period) l) (holder-at t x)
+        (record { given = c .given; held = c .held; placed = c .placed; counts = c .counts })
+    go (Closed way) h w l e k c =
+        let x : Block = record { state = Closed way; holder = h; written = w; left = l; erases = e; serial = k } in
+        held-together t h k (holderRecord t x) way (leb (w .0) (adusPerBlock (t .config) .0)) (eqb l 0) (holder-at t x)
+        (record { given = c .given; held = c .held; placed = c .placed; counts = c .counts })
+
+-- The counts of the whole drive are those of the rules: of the blocks held, ..
+pub held-counted : (t : Table) (y : Tally) → Counts t (size t) y → (d : ℕ) → d < 17 → getD (y .held) d 0 ≡ heldCount t d
+unfolding heldCount
+held-counted t y c d l = c .held d l
+
+-- .. and of the blocks open.
+pub open-counted : (t : Table) (y : Tally) → Counts t (size t) y → (d : ℕ) → d < 17 → getD (y .opened) d 0 ≡ openCount t d
+unfolding openCount
+open-counted t y c d l = c .opened d l
+
+-- The survey numbers domains from 0, the rules from 1.
+domain-at : (t : Table) (i : ℕ) → getD (t .domains) i clearDomain ≡ domainAt t (i + 1)
+domain-at t i = ap (λ n. getD (t .domains) n clearDomain) (before i)
+  where
+    before : (n : ℕ) → n ≡ n + 1 - 1
+    before n = omega arith
+
+-- With the counts the survey's sum is the coverage.
+pub covers : (t : Table) (y : Tally) → Counts t (size t) y → coveredTo t y 16 ≡ coverage (reservedBy t) (heldCount t)
+unfolding coveredTo coverage
+covers t y c =
+    sum-same 16
+    (λ i. max (getD (t .domains) i clearDomain .reserved) (getD (y .held) (i + 1) 0))
+    (λ i. max (reservedBy t (i + 1)) (heldCount t (i + 1)))
+    (λ i l. ap₂ max (ap (λ r. r .reserved) (domain-at t i)) (held-counted t y c (i + 1) (omega arith)))
+
+-- The clauses that speak of one domain, ..
+abbrev domainTest : Table → ℕ → Bool
+domainTest t d = quotaKept t d && openLimitKept t d && missingIsClear (domainAt t d)
+
+-- .. each of them, ..
+domain-apart : (t : Table) (d : ℕ) → domainTest t d ≡ true
+    → (quotaKept t d ≡ true) × (openLimitKept t d ≡ true) × (missingIsClear (domainAt t d) ≡ true)
+domain-apart t d q =
+    let q2 = both (quotaKept t d && openLimitKept t d) (missingIsClear (domainAt t d)) q in
+    let q1 = both (quotaKept t d) (openLimitKept t d) (q2 .0) in
+    (q1 .0, q1 .1, q2 .1)
+
+-- .. and that the survey tests them of every domain.
+domain-tests : (t : Table) (y : Tally) → Counts t (size t) y
+    → domainsSound t y 16 ≡ eachDomain (domainTest t)
+unfolding domainsSound domainSound
+domain-tests t y c =
+    all-same 16
+    (λ i. domainSound (getD (t .domains) i clearDomain) (size t) (getD (y .held) (i + 1) 0) (getD (y .opened) (i + 1) 0))
+    (λ i. domainTest t (i + 1))
+    (λ i l. rw (domain-at t i, held-counted t y c (i + 1) (omega arith), open-counted t y c (i + 1) (omega arith)))
+
+-- The survey's tests, with the tally's counts.
+abbrev pub passes : Table → Tally → Bool
+passes t y = blocksSound t (size t) && domainsSound t y 16 && leb (coveredTo t y 16) (size t) && pairsSound t (size t)
+
+-- They all pass exactly where the table is sound: soundness from the tests, ..
+passed-sound : (t : Table) (y : Tally) → withinLimits (t .config) ≡ true → Counts t (size t) y → passes t y ≡ true → sound t ≡ true
+unfolding blocksSound pairsSound pairSound
+passed-sound t y limits c q =
+    let q3 = both _ (pairsSound t (size t)) q in
+    let q2 = both _ (leb (coveredTo t y 16) (size t)) (q3 .0) in
+    let q1 = both (blocksSound t (size t)) (domainsSound t y 16) (q2 .0) in
+    let ofBlock : (n : ℕ) → n < size t → BlockClauses t (blockAt t n) =
+    λ n l. block-apart t (blockAt t n) (all-each (size t) (λ i. testOf t (blockAt t i)) (q1 .0) n l) in
+    let ofDomain : (i : ℕ) → i < 16 → domainTest t (i + 1) ≡ true =
+    all-each 16 (λ i. domainTest t (i + 1)) (sym (domain-tests t y c) ∙ q1 .1) in
+    let ofPair : (n m : ℕ) → n < size t → m < n
+    → (serialsDiffer (blockAt t n) (blockAt t m) ≡ true) × (placementsDiffer (blockAt t n) (blockAt t m) ≡ true) = λ n m l k.
+    both (serialsDiffer (blockAt t n) (blockAt t m)) (placementsDiffer (blockAt t n) (blockAt t m))
+    (all-each n (λ j. pairSound (blockAt t n) (blockAt t j))
+    (all-each (size t) (λ i. allTo (λ j. pairSound (blockAt t i) (blockAt t j)) i) (q3 .1) n l) m k) in
+    together t (record {
+      limits = limits;
+      quotas = each-all 16 (λ i. quotaKept t (i + 1)) (λ i l. domain-apart t (i + 1) (ofDomain i l) .0);
+      coverage = ap (λ n. leb n (size t)) (sym (covers t y c)) ∙ q2 .1;
+      open-limits = each-all 16 (λ i. openLimitKept t (i + 1)) (λ i l. domain-apart t (i + 1) (ofDomain i l) .1);
+      serials-differ =
+          each-all (size t) (λ n. allTo (λ m. serialsDiffer (blockAt t n) (blockAt t m)) n)
+          (λ n l. each-all n (λ m. serialsDiffer (blockAt t n) (blockAt t m)) (λ m k. ofPair n m l k .0));
+      serials-given = each-all (size t) (λ n. serialGiven t (blockAt t n)) (λ n l. ofBlock n l .given);
+      holders = each-all (size t) (λ n. holderExists t (blockAt t n)) (λ n l. ofBlock n l .held);
+      placements = each-all (size t) (λ n. placementExists t (blockAt t n)) (λ n l. ofBlock n l .placed);
+      placements-differ =
+          each-all (size t) (λ n. allTo (λ m. placementsDiffer (blockAt t n) (blockAt t m)) n)
+          (λ n l. each-all n (λ m. placementsDiffer (blockAt t n) (blockAt t m)) (λ m k. ofPair n m l k .1));
+      counts = each-all (size t) _ (λ n l. ofBlock n l .counts);
+      free-clear = each-all (size t) (λ n. freeIsClear (blockAt t n)) (λ n l. ofBlock n l .clear);
+      missing-clear = each-all 16 (λ i. missingIsClear (domainAt t (i + 1))) (λ i l. domain-apart t (i + 1) (ofDomain i l) .2);
+    })
+
+-- .. the tests from soundness, ..
+sound-passed : (t : Table) (y : Tally) → Counts t (size t) y → sound t ≡ true → passes t y ≡ true
+unfolding blocksSound pairsSound pairSound
+sound-passed t y c s =
+    let h = apart t s in
+    joined
+    (joined
+    (joined
+    (each-all (size t) (λ i. testOf t (blockAt t i)) (λ n l. block-together t (blockAt t n) (record {
+      given = all-each (size t) (λ i. serialGiven t (blockAt t i)) (h .serials-given) n l;
+      held = all-each (size t) (λ i. holderExists t (blockAt t i)) (h .holders) n l;
+      placed = all-each (size t) (λ i. placementExists t (blockAt t i)) (h .placements) n l;
+      counts = all-each (size t) _ (h .counts) n l;
+      clear = all-each (size t) (λ i. freeIsClear (blockAt t i)) (h .free-clear) n l;
+    })))
+    (domain-tests t y c ∙ each-all 16 (λ i. domainTest t (i + 1)) (λ i l. joined (joined
+    (all-each 16 (λ i. quotaKept t (i + 1)) (h .quotas) i l)
+    (all-each 16 (λ i. openLimitKept t (i + 1)) (h .open-limits) i l))
+    (all-each 16 (λ i. missingIsClear (domainAt t (i + 1))) (h .missing-clear) i l))))
+    (ap (λ n. leb n (size t)) (covers t y c) ∙ h .coverage))
+    (each-all (size t) (λ n. allTo (λ m. pairSound (blockAt t n) (blockAt t m)) n)
+    (λ n l. each-all n (λ m. pairSound (blockAt t n) (blockAt t m)) (λ m k. joined
+    (all-each n (λ m. serialsDiffer (blockAt t n) (blockAt t m))
+    (all-each (size t) (λ n. allTo (λ m. serialsDiffer (blockAt t n) (blockAt t m)) n) (h .serials-differ) n l) m k)
+    (all-each n (λ m. placementsDiffer (blockAt t n) (blockAt t m))
+    (all-each (size t) (λ n. allTo (λ m. placementsDiffer (blockAt t n) (blockAt t m)) n) (h .placements-differ) n l) m k))))
+
+-- .. and so the one is the other.
+pub survey-sound : (t : Table) (y : Tally) → withinLimits (t .config) ≡ true → Counts t (size t) y → passes t y ≡ sound t
+survey-sound t y limits c = same-test (passes t y) (sound t) (passed-sound t y limits c) (sound-passed t y c)
+
+-- A table outside the limits is not sound.
+pub outside-unsound : (t : Table) → withinLimits (t .config) ≡ false → sound t ≡ false
+outside-unsound t e = by-test (sound t) (λ s. absurd (true≢false (sym (apart t s .limits) ∙ e))) (λ s. s)
+
+-- The survey that says no more than that a table is not sound.
+pub unsound-survey : (t : Table) (r : Survey) → r ≡ notSound → sound t ≡ false → Surveyed t r
+unsound-survey t r e f =
+    let no : r .sound ≡ false = ap (λ (x : Survey). x .sound) e in
+    record {
+      tested = no ∙ sym f;
+      held = λ s. absurd (true≢false (sym s ∙ no));
+      opened = λ s. absurd (true≢false (sym s ∙ no));
+      covers = λ s. absurd (true≢false (sym s ∙ no));
+      nothing = λ s. e;
+    }

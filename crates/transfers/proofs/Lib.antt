@@ -1,0 +1,3 @@
+-- Laws that the functions' proofs share.
+pub mod Addresses
+pub mod Accepted

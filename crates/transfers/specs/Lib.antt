@@ -1,0 +1,2 @@
+-- What writes and reads need and leave.
+pub mod Transfers
