@@ -15,14 +15,13 @@ ghost use mathlib.Core.Path.{_≡_};
 ghost use Prim.Native.Nat.{ℕ};
 ghost use lib.ListN.{drop};
 ghost use Rattle.geometry.specs.Questions.{firstNo};
-ghost use Rattle.tables.specs.Serving.{drive, served};
-ghost use Rattle.tables.specs.Verdicts.{verdictNumber};
 ghost use Rattle.model.specs.declared.command.Command.the-variants.{Close, Free};
 ghost use Rattle.rules.specs.Effects.{Serves};
 ghost use Rattle.rules.specs.Questions.{heldBlockQuestions};
+ghost use Rattle.tables.specs.Serving.{drive, served};
+ghost use Rattle.tables.specs.Verdicts.{verdictNumber};
 
-// ---- Close and Free
-
+// What Close and Free are asked.
 fn held_block_verdict(table: Table, domain: u64, block: u64) -> Verdict
     ensures { λ r. ⌜ verdictNumber r ≡ firstNo (drop 1 (heldBlockQuestions table domain block)) ⌝ }
 {
@@ -32,6 +31,7 @@ fn held_block_verdict(table: Table, domain: u64, block: u64) -> Verdict
         .and(is_held(b, domain), Refusal::Holder)
 }
 
+// An open block becomes Closed; a Closed one stays as it is.
 pub fn close(table: Table, domain: u64, block: u64) -> Served
     ensures { λ r. ⌜ ((store words bytes : List ℕ) → Serves (drive table store) (Close domain block) words bytes (served r store words bytes)) ⌝ }
 {
@@ -51,6 +51,7 @@ pub fn close(table: Table, domain: u64, block: u64) -> Served
     }
 }
 
+// A held block becomes Free; the store keeps its entries.
 pub fn free(table: Table, domain: u64, block: u64) -> Served
     ensures { λ r. ⌜ ((store words bytes : List ℕ) → Serves (drive table store) (Free domain block) words bytes (served r store words bytes)) ⌝ }
 {

@@ -32,18 +32,16 @@ ghost use Prim.Native.Nat.{ℕ, _≤_};
 ghost use lib.ListN.{drop, take};
 ghost use Rattle.geometry.specs.Address.{isDomainId};
 ghost use Rattle.geometry.specs.Questions.{firstNo};
-ghost use Rattle.tables.specs.Serving.{drive, served};
-ghost use Rattle.tables.specs.Survey.{Surveyed};
-ghost use Rattle.tables.specs.Verdicts.{lending, newBlocksQuestions, verdictNumber};
 ghost use Rattle.model.specs.declared.command.Command.the-variants.{Erase};
 ghost use Rattle.rules.specs.Effects.{Serves};
 ghost use Rattle.rules.specs.Questions.{Lengths, newOfErase, questions};
 ghost use Rattle.rules.specs.Soundness.{sound};
+ghost use Rattle.tables.specs.Serving.{drive, served};
+ghost use Rattle.tables.specs.Survey.{Surveyed};
+ghost use Rattle.tables.specs.Verdicts.{lending, newBlocksQuestions, verdictNumber};
 
 // Erase leaves the choice to the manager.
 const ANY_BLOCK: u64 = 0xffff_ffff;
-
-// ---- Erase
 
 // 3 to 6.
 fn erase_arguments(table: Table, domain: u64, block: u64, entries: usize) -> Verdict
@@ -120,6 +118,7 @@ fn erase_verdict(table: Table, survey: Survey, domain: u64, block: u64, entries:
     }
 }
 
+// Opens the block of this number, or for FFFFFFFFh the chosen one, with entries of all ones.
 pub fn erase(table: Table, domain: u64, block: u64, store: &mut [u64]) -> Served
     ensures { λ r. ⌜ ((words bytes : List ℕ) → Serves (drive table (now (store .entry))) (Erase domain block) words bytes (served r (now (store .exit)) words bytes)) ⌝ }
 {

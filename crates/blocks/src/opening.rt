@@ -13,11 +13,11 @@ ghost use mathlib.Core.Bool.{true};
 ghost use mathlib.Core.List.{[]};
 ghost use mathlib.Core.Path.{_≡_};
 ghost use Prim.Native.Nat.{_≤_};
+ghost use Rattle.blocks.specs.Opening.{MayOpen};
 ghost use Rattle.geometry.specs.Address.{isDomainId};
 ghost use Rattle.geometry.specs.Shape.{withinLimits};
-ghost use Rattle.blocks.specs.Opening.{MayOpen};
-ghost use Rattle.tables.specs.Serving.{drive};
 ghost use Rattle.rules.specs.Blocks.{nextSerial, openedFor, withLast};
+ghost use Rattle.tables.specs.Serving.{drive};
 
 fn with_last(domain: Domain, last: u32) -> Domain
     ensures { λ r. ⌜ r ≡ withLast last domain ⌝ }

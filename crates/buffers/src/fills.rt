@@ -3,8 +3,8 @@ ghost use mathlib.Core.Bool.{true};
 ghost use mathlib.Core.Path.{_≡_};
 ghost use Prim.Native.Nat.{_+_, _≤_};
 ghost use lib.ListN.{drop, length, take};
-ghost use Rattle.geometry.specs.Bytes.{littleEndian};
 ghost use Rattle.buffers.specs.Rows.{entryAt};
+ghost use Rattle.geometry.specs.Bytes.{littleEndian};
 ghost use Rattle.rules.specs.Counting.{rowTo};
 ghost use Rattle.rules.specs.Drive.{overwritten};
 

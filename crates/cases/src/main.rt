@@ -1,9 +1,15 @@
-// Runs the drive's shape and its flash addresses on cases, each with its expectation written out,
-// and prints a line for each. A line that begins 'WRONG' is a case that fails.
+// Runs the drive's shape, its flash addresses and, from a script, the manager's commands on cases,
+// each with its expectation written out, and prints a line for each. A line that begins 'WRONG' is a
+// case that fails.
 mod addresses;
+mod called;
 mod calls;
+mod compare;
+mod desk;
 mod report;
+mod script;
 mod shapes;
+mod tokens;
 
 fn main() {
     shapes::limits();
@@ -16,4 +22,5 @@ fn main() {
     addresses::not_parts();
     addresses::damaged();
     addresses::by_value();
+    script::run();
 }

@@ -10,10 +10,11 @@ use tables::with_each_block;
 ghost use mathlib.Core.List.{List};
 ghost use mathlib.Core.Path.{_≡_};
 ghost use Prim.Native.Nat.{ℕ};
-ghost use Rattle.tables.specs.Serving.{drive, served};
 ghost use Rattle.model.specs.declared.command.Command.the-variants.{Pulse};
 ghost use Rattle.rules.specs.Effects.{Serves};
+ghost use Rattle.tables.specs.Serving.{drive, served};
 
+// Each open block has so many seconds less, and is Closed where none are left.
 pub fn pulse(table: Table, seconds: u64) -> Served
     ensures { λ r. ⌜ ((store words bytes : List ℕ) → Serves (drive table store) (Pulse seconds) words bytes (served r store words bytes)) ⌝ }
 {

@@ -14,13 +14,11 @@ use tables::with_each_block;
 ghost use mathlib.Core.List.{List};
 ghost use mathlib.Core.Path.{_≡_};
 ghost use Prim.Native.Nat.{ℕ, _≤_};
-ghost use Rattle.tables.specs.Serving.{drive, served};
 ghost use Rattle.model.specs.declared.command.Command.the-variants.{Delete};
 ghost use Rattle.rules.specs.Domains.{deletedDomain};
 ghost use Rattle.rules.specs.Drive.{size};
 ghost use Rattle.rules.specs.Effects.{Serves};
-
-// ---- Delete
+ghost use Rattle.tables.specs.Serving.{drive, served};
 
 fn deleted_domain(table: Table, domain: u64) -> Table
     requires { ⌜ size table ≤ 256 ⌝ }
@@ -30,6 +28,7 @@ fn deleted_domain(table: Table, domain: u64) -> Table
     with_domain(freed, domain, clear_domain())
 }
 
+// Every block of the domain is freed, and its record cleared.
 pub fn delete(table: Table, domain: u64) -> Served
     ensures { λ r. ⌜ ((store words bytes : List ℕ) → Serves (drive table store) (Delete domain) words bytes (served r store words bytes)) ⌝ }
 {

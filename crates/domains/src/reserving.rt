@@ -24,18 +24,18 @@ ghost use mathlib.Core.List.{List};
 ghost use mathlib.Core.Path.{_≡_};
 ghost use Prim.Native.Nat.{ℕ, _≤_, max};
 ghost use lib.ListN.{drop, take};
+ghost use Rattle.domains.specs.Reserving.{reserved};
 ghost use Rattle.geometry.specs.Address.{isDomainId};
 ghost use Rattle.geometry.specs.Questions.{firstNo};
 ghost use Rattle.geometry.specs.Shape.{wholeBlocks, withinLimits};
-ghost use Rattle.domains.specs.Reserving.{reserved};
-ghost use Rattle.tables.specs.Serving.{drive, served};
-ghost use Rattle.tables.specs.Survey.{Surveyed};
-ghost use Rattle.tables.specs.Verdicts.{verdictNumber};
 ghost use Rattle.model.specs.declared.command.Command.the-variants.{ChangeCapacity, Create};
 ghost use Rattle.rules.specs.Domains.{arePlaneCounts, changedDomain, createdDomain, newBlockCount, openLimit};
 ghost use Rattle.rules.specs.Effects.{Serves};
 ghost use Rattle.rules.specs.Questions.{Lengths, questions};
 ghost use Rattle.rules.specs.Soundness.{sound};
+ghost use Rattle.tables.specs.Serving.{drive, served};
+ghost use Rattle.tables.specs.Survey.{Surveyed};
+ghost use Rattle.tables.specs.Verdicts.{verdictNumber};
 
 fn are_plane_counts(config: Config, guarantee: Planes, quota: Planes) -> bool
     requires { ⌜ withinLimits config ≡ true ⌝ }
@@ -134,6 +134,7 @@ fn created_domain(
     }
 }
 
+// A new domain, if the guarantees stay covered with its own.
 pub fn create(
     table: Table,
     domain: u64,
@@ -204,6 +205,7 @@ fn changed_domain(
     new
 }
 
+// Another guarantee and quota; 0 keeps the present one, and the quota does not fall below what is held.
 pub fn change_capacity(table: Table, domain: u64, guarantee: Planes, quota: Planes) -> Served
     ensures { λ r. ⌜ ((store words bytes : List ℕ) → Serves (drive table store) (ChangeCapacity domain guarantee quota) words bytes (served r store words bytes)) ⌝ }
 {

@@ -22,18 +22,16 @@ ghost use mathlib.Core.List.{List};
 ghost use mathlib.Core.Path.{_≡_};
 ghost use Prim.Native.Nat.{ℕ, _+_, _≤_};
 ghost use lib.ListN.{length};
+ghost use Rattle.geometry.specs.Address.{isDomainId};
 ghost use Rattle.geometry.specs.Shape.{withinLimits};
 ghost use Rattle.log_pages.specs.LogPages.{descriptorOf, isListed, listedBytes, markOf};
-ghost use Rattle.tables.specs.Serving.{answering, drive, served};
-ghost use Rattle.tables.specs.Survey.{Surveyed};
 ghost use Rattle.model.specs.declared.command.Command.the-variants.{List as Listing};
-ghost use Rattle.geometry.specs.Address.{isDomainId};
 ghost use Rattle.rules.specs.Drive.{overwritten};
 ghost use Rattle.rules.specs.Effects.{Serves};
 ghost use Rattle.rules.specs.LogPages.{listLength};
 ghost use Rattle.rules.specs.Soundness.{sound};
-
-// ---- List
+ghost use Rattle.tables.specs.Serving.{answering, drive, served};
+ghost use Rattle.tables.specs.Survey.{Surveyed};
 
 fn is_listed(listed: Listed, domain: u64, block: Block) -> bool
     ensures { λ r. ⌜ r ≡ isListed listed domain block ⌝ }
@@ -107,6 +105,8 @@ fn list_length(table: Table, survey: Survey, domain: u64, listed: Listed) -> u64
     }
 }
 
+// The domain's open or Closed blocks, a descriptor each, and the end mark. Both stand in ascending
+// number.
 pub fn list(table: Table, domain: u64, listed: Listed, bytes: &mut [u8]) -> Answer
     ensures { λ r. ⌜ ((store words : List ℕ) → Serves (drive table store) (Listing domain listed) words (now (bytes .entry)) (served (answering table r) store words (now (bytes .exit)))) ⌝ }
 {

@@ -21,15 +21,13 @@ ghost use Prim.Native.Nat.{ℕ, _≤_};
 ghost use lib.ListN.{drop, length, take};
 ghost use Rattle.geometry.specs.Questions.{firstNo};
 ghost use Rattle.geometry.specs.Shape.{withinLimits};
-ghost use Rattle.tables.specs.Serving.{answering, drive, served};
-ghost use Rattle.tables.specs.Verdicts.{lending, verdictNumber};
 ghost use Rattle.model.specs.declared.command.Command.the-variants.{Page};
 ghost use Rattle.rules.specs.Drive.{overwritten};
 ghost use Rattle.rules.specs.Effects.{Serves};
 ghost use Rattle.rules.specs.LogPages.{page};
 ghost use Rattle.rules.specs.Questions.{questions};
-
-// ---- Page
+ghost use Rattle.tables.specs.Serving.{answering, drive, served};
+ghost use Rattle.tables.specs.Verdicts.{lending, verdictNumber};
 
 // Which block it is and whose.
 fn put_identity(bytes: &mut [u8], table: Table, block: u64)
@@ -73,6 +71,7 @@ fn page_verdict(table: Table, domain: u64, block: u64, room: usize) -> Verdict
         .and(is_held(b, domain), Refusal::Holder)
 }
 
+// Super Block Information of a held block, 256 bytes.
 pub fn page(table: Table, domain: u64, block: u64, bytes: &mut [u8]) -> Answer
     ensures { λ r. ⌜ ((store words : List ℕ) → Serves (drive table store) (Page domain block) words (now (bytes .entry)) (served (answering table r) store words (now (bytes .exit)))) ⌝ }
 {

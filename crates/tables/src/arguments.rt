@@ -15,9 +15,9 @@ ghost use lib.Dec.{eqb, leb};
 ghost use Rattle.geometry.specs.Address.{isDomainId};
 ghost use Rattle.geometry.specs.Questions as question;
 ghost use Rattle.geometry.specs.Shape.{storeLength};
-ghost use Rattle.tables.specs.Verdicts.{verdictNumber};
 ghost use Rattle.rules.specs.Questions.{exists, isCount};
 ghost use Rattle.rules.specs.Soundness.{sound};
+ghost use Rattle.tables.specs.Verdicts.{verdictNumber};
 
 // 4 and 5: the domain's ID, and does it exist?
 pub fn domain_verdict(table: Table, domain: u64) -> Verdict

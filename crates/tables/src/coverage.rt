@@ -9,8 +9,8 @@ ghost use mathlib.Core.Bool.{true};
 ghost use mathlib.Core.Path.{_≡_};
 ghost use Prim.Native.Nat.{_<_};
 ghost use Rattle.geometry.specs.Address.{isDomainId};
-ghost use Rattle.tables.specs.Survey.{Surveyed};
 ghost use Rattle.rules.specs.Domains.{coveredWith};
+ghost use Rattle.tables.specs.Survey.{Surveyed};
 
 // The survey has the sum; the domain's own part of it is replaced.
 pub fn covered_with(table: Table, survey: Survey, domain: u64, reserved: u64, blocks: u64) -> bool

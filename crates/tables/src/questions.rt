@@ -6,9 +6,9 @@ ghost use mathlib.Core.Bool.{cond};
 ghost use mathlib.Core.Path.{_≡_};
 ghost use Prim.Native.Nat.{_+_, _<_};
 ghost use lib.Dec.{leb, ltb};
-ghost use Rattle.tables.specs.Verdicts.{thenNumber, verdictNumber};
 ghost use Rattle.model.specs.Answers.{numberOf};
 ghost use Rattle.rules.specs.Drive.{heldBy};
+ghost use Rattle.tables.specs.Verdicts.{thenNumber, verdictNumber};
 
 pub enum Verdict {
     Pass,

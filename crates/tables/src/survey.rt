@@ -17,10 +17,10 @@ ghost use mathlib.Core.Bool.{true};
 ghost use mathlib.Core.Path.{_≡_};
 ghost use Prim.Native.Nat.{_<_, _≤_, max};
 ghost use Rattle.geometry.specs.Shape.{withinLimits};
-ghost use Rattle.tables.specs.Survey.{BlocksSurveyed, DomainsSurveyed, Small, Surveyed};
-ghost use Rattle.tables.specs.Survey.{blockSound, domainSound, isOwned, notSound, pairSound, pairsSound, slot};
 ghost use Rattle.rules.specs.Drive.{isOpenFor};
 ghost use Rattle.rules.specs.Soundness.{samePlacement, wayBelow};
+ghost use Rattle.tables.specs.Survey.{BlocksSurveyed, DomainsSurveyed, Small, Surveyed};
+ghost use Rattle.tables.specs.Survey.{blockSound, domainSound, isOwned, notSound, pairSound, pairsSound, slot};
 
 // Whether the table is sound, and where it is, the blocks of each domain and the coverage.
 pub struct Survey {

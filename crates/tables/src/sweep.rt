@@ -3,8 +3,8 @@ use model::Block;
 use model::Table;
 ghost use mathlib.Core.Path.{_≡_};
 ghost use Prim.Native.Nat.{_≤_};
-ghost use Rattle.tables.specs.Changes.{swept};
 ghost use Rattle.rules.specs.Drive.{size, withEachBlock};
+ghost use Rattle.tables.specs.Changes.{swept};
 
 pub enum Sweep {
     // frees what this domain holds

@@ -1,12 +1,12 @@
 // How many blocks each domain holds, and how many of them are open.
 use crate::records::is_open;
 use model::Block;
-ghost use mathlib.Core.Path.{_≡_};
 ghost use mathlib.Core.Bool.{cond};
+ghost use mathlib.Core.Path.{_≡_};
 ghost use Prim.Native.Nat.{_<_};
 ghost use lib.ListN.{getD};
-ghost use Rattle.tables.specs.Survey.{Small, Tallied};
 ghost use Rattle.rules.specs.Drive.{isOpen};
+ghost use Rattle.tables.specs.Survey.{Small, Tallied};
 
 // A count for each holder, 0 to 16; 0 is none.
 pub struct Tally {

@@ -23,13 +23,13 @@ ghost use mathlib.Core.Path.{_≡_};
 ghost use Prim.Native.Nat.{ℕ, _+_, _≤_};
 ghost use lib.ListN.{drop, length, take};
 ghost use Rattle.geometry.specs.Questions.{firstNo};
-ghost use Rattle.transfers.specs.Transfers.{ReadsStretch};
-ghost use Rattle.tables.specs.Serving.{answering, drive, served};
-ghost use Rattle.tables.specs.Verdicts.{lending, verdictNumber};
 ghost use Rattle.model.specs.declared.command.Command.the-variants.{Read};
 ghost use Rattle.rules.specs.Effects.{Serves};
 ghost use Rattle.rules.specs.Questions.{isCount, questions, userAddressesFit};
 ghost use Rattle.rules.specs.Soundness.{sound};
+ghost use Rattle.tables.specs.Serving.{answering, drive, served};
+ghost use Rattle.tables.specs.Verdicts.{lending, verdictNumber};
+ghost use Rattle.transfers.specs.Transfers.{ReadsStretch};
 
 fn read_arguments(
     table: Table,
@@ -97,6 +97,7 @@ fn read_stretch(store: &[u64], at: usize, count: usize, expected: u64, words: &m
     Answer::Refused(Refusal::Mismatch)
 }
 
+// The stored user addresses from a flash address on, if they are the expected ones.
 pub fn read(
     table: Table,
     domain: u64,

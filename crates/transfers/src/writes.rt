@@ -32,15 +32,15 @@ ghost use lib.ListN.{drop, length, take};
 ghost use Rattle.geometry.specs.Address.{wordOf};
 ghost use Rattle.geometry.specs.Answers.{addressQuestions};
 ghost use Rattle.geometry.specs.Questions.{firstNo};
-ghost use Rattle.transfers.specs.Transfers.{MayWrite, WritesInto, addressIn};
-ghost use Rattle.tables.specs.Serving.{drive, served};
-ghost use Rattle.tables.specs.Verdicts.{lending, verdictNumber};
 ghost use Rattle.model.specs.declared.command.Command.the-variants.{WriteByBlock};
 ghost use Rattle.rules.specs.Blocks.{userAddresses};
 ghost use Rattle.rules.specs.Drive.{overwritten};
 ghost use Rattle.rules.specs.Effects.{Serves};
 ghost use Rattle.rules.specs.Questions.{isCount, questions, userAddressesFit};
 ghost use Rattle.rules.specs.Soundness.{sound};
+ghost use Rattle.tables.specs.Serving.{drive, served};
+ghost use Rattle.tables.specs.Verdicts.{lending, verdictNumber};
+ghost use Rattle.transfers.specs.Transfers.{MayWrite, WritesInto, addressIn};
 
 // ---- Into a block
 
@@ -147,6 +147,7 @@ fn write_verdict(
     }
 }
 
+// User addresses into a block that is Open by Erase, and their flash addresses into the words.
 pub fn write_by_block(
     table: Table,
     domain: u64,
