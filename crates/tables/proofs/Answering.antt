@@ -86,7 +86,7 @@ pub one-by-one-after : (xs ys : List Question) → positive xs ≡ true → posi
 one-by-one-after xs ys p q = chain-then (firstNo xs) ys q ∙ sym (first-append xs ys p)
 
 -- Question 2 comes first.
-pub sound-first : (v : Drive) (lent : Lengths) (c : Command) → questions v lent c ≡ ask 2 (sound (v .table)) ∷ drop 1 (questions v lent c)
+sound-first : (v : Drive) (lent : Lengths) (c : Command) → questions v lent c ≡ ask 2 (sound (v .table)) ∷ drop 1 (questions v lent c)
 unfolding questions
 sound-first v lent (Create d guarantee quota placements limit) = refl
 sound-first v lent (ChangeCapacity d guarantee quota) = refl
@@ -101,7 +101,7 @@ sound-first v lent (Page d n) = refl
 sound-first v lent (Listing d which) = refl
 sound-first v lent (Pulse seconds) = refl
 
-pub unsound-verdict : (v : Drive) (lent : Lengths) (c : Command) → sound (v .table) ≡ false → verdict v lent c ≡ 2
+unsound-verdict : (v : Drive) (lent : Lengths) (c : Command) → sound (v .table) ≡ false → verdict v lent c ≡ 2
 unfolding firstNo
 unsound-verdict v lent c e = ap firstNo (sound-first v lent c) ∙ rw e
 
@@ -163,7 +163,7 @@ part-yes v lent c k i e =
 -- ---- What a call hands back
 
 -- A refused call hands back what it was given.
-pub refused-call : (v : Drive) (c : Command) (words bytes : List ℕ) (reason : Refusal)
+refused-call : (v : Drive) (c : Command) (words bytes : List ℕ) (reason : Refusal)
     → verdict v (lengthsOf v words bytes) c ≡ numberOf reason
     → Serves v c words bytes (served (refusing (v .table) reason) (v .store) words bytes)
 unfolding driveAfter wordsFilled
