@@ -6,4 +6,3 @@ mod opening;
 pub use closing::close;
 pub use closing::free;
 pub use erasing::erase;
-pub use opening::opened_for;

@@ -43,7 +43,13 @@ fn opened_table(table: Table, domain: u64, way: Way, block: u64) -> Table
     with_domain(changed, domain, with_last(d, serial))
 }
 
-pub fn opened_for(table: Table, domain: u64, way: Way, block: u64, store: &mut [u64]) -> Table
+pub(crate) fn opened_for(
+    table: Table,
+    domain: u64,
+    way: Way,
+    block: u64,
+    store: &mut [u64],
+) -> Table
     requires { ⌜ MayOpen (drive table (now store)) domain block ⌝ }
     ensures { λ r. ⌜ drive r (now (store .exit)) ≡ openedFor domain way block (drive table (now (store .entry))) ⌝ }
 {

@@ -47,7 +47,8 @@ yes-at (suc k) (q ∷ qs) p e =
     let h = both (ltb 0 (q .number)) (positive qs) p in
     yes-at k qs (h .1) (all-yes (q .number) (q .holds) qs (ltb-true 0 (q .number) (h .0)) e .1)
 
-all-positive : (last : ℕ) (qs : List Question) → rising last qs ≡ true → positive qs ≡ true
+-- So no question has the number 0.
+pub all-positive : (last : ℕ) (qs : List Question) → rising last qs ≡ true → positive qs ≡ true
 unfolding rising positive
 all-positive last [] e = refl
 all-positive last (q ∷ qs) e =

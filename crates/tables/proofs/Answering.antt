@@ -22,7 +22,7 @@ use Rattle.model.specs.declared.command.Command.the-variants.{ChangeCapacity, C
 use Rattle.model.specs.declared.command.Command.the-variants.{WriteByBlock, WriteByPlacement}
 use Rattle.model.specs.declared.table.Table.{Table}
 use Rattle.rules.proofs.Drive.{overwritten-nothing}
-use Rattle.rules.proofs.Questions.{holdsAt, yes-at}
+use Rattle.rules.proofs.Questions.{all-positive, holdsAt, in-order, yes-at}
 use Rattle.rules.specs.Drive.{Drive, overwritten}
 use Rattle.rules.specs.Effects.{Effect, Fills, Served, Serves, accepted, changing, driveAfter, effect, lengthsOf, verdict, wordsFilled}
 use Rattle.rules.specs.Questions.{Lengths, questions}
@@ -110,20 +110,13 @@ unfolding firstNo
 sound-verdict v lent c e = ap firstNo (sound-first v lent c) ∙ rw e
 
 -- The rest of the questions, put in two parts.
+positive-rest : (qs : List Question) → positive qs ≡ true → positive (drop 1 qs) ≡ true
+unfolding positive
+positive-rest [] p = refl
+positive-rest (q ∷ qs) p = both (ltb 0 (q .number)) (positive qs) p .1
+
 rest-positive : (v : Drive) (lent : Lengths) (c : Command) → positive (drop 1 (questions v lent c)) ≡ true
-unfolding questions positive
-rest-positive v lent (Create d guarantee quota placements limit) = refl
-rest-positive v lent (ChangeCapacity d guarantee quota) = refl
-rest-positive v lent (Delete d) = refl
-rest-positive v lent (Erase d n) = refl
-rest-positive v lent (Close d n) = refl
-rest-positive v lent (Free d n) = refl
-rest-positive v lent (WriteByPlacement d p start count) = refl
-rest-positive v lent (WriteByBlock d n start count) = refl
-rest-positive v lent (Read d address count expected) = refl
-rest-positive v lent (Page d n) = refl
-rest-positive v lent (Listing d which) = refl
-rest-positive v lent (Pulse seconds) = refl
+rest-positive v lent c = positive-rest (questions v lent c) (all-positive 1 (questions v lent c) (in-order v lent c))
 
 positive-take : (k : ℕ) (qs : List Question) → positive qs ≡ true → positive (take k qs) ≡ true
 unfolding positive
