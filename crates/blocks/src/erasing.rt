@@ -1,4 +1,5 @@
 // Erase.
+use crate::opening::new_blocks_verdict;
 use crate::opening::opened_for;
 use model::Answer;
 use model::Refusal;
@@ -10,21 +11,16 @@ use tables::Survey;
 use tables::Verdict;
 use tables::ask;
 use tables::block_at;
-use tables::covered_with;
 use tables::domain_at;
 use tables::erased_block;
-use tables::held_by;
 use tables::is_closed;
 use tables::is_free;
 use tables::is_held;
 use tables::may_open;
 use tables::opened_by;
 use tables::refused;
-use tables::reserved_by;
-use tables::serials_left;
 use tables::store_verdict;
 use tables::surveyed;
-use tables::within_quota;
 ghost use mathlib.Core.Bool.{true};
 ghost use mathlib.Core.List.{List};
 ghost use mathlib.Core.Path.{_≡_};
@@ -38,7 +34,7 @@ ghost use Rattle.rules.specs.Questions.{Lengths, newOfErase, questions};
 ghost use Rattle.rules.specs.Soundness.{sound};
 ghost use Rattle.tables.specs.Serving.{drive, served};
 ghost use Rattle.tables.specs.Survey.{Surveyed};
-ghost use Rattle.tables.specs.Verdicts.{lending, newBlocksQuestions, verdictNumber};
+ghost use Rattle.tables.specs.Verdicts.{lending, verdictNumber};
 
 // Erase leaves the choice to the manager.
 const ANY_BLOCK: u64 = 0xffff_ffff;
@@ -60,26 +56,6 @@ fn erase_block_verdict(table: Table, domain: u64, block: u64) -> Verdict
     let any = block == ANY_BLOCK;
     let own = is_held(b, domain);
     ask(any | is_free(b) | own, Refusal::Holder).and(any | !own | is_closed(b), Refusal::BlockState)
-}
-
-// 12 to 14: are there serials, quota and coverage for so many new serials and blocks?
-fn new_blocks_verdict(
-    table: Table,
-    survey: Survey,
-    domain: u64,
-    serials: u32,
-    blocks: u64,
-) -> Verdict
-    requires { ⌜ Surveyed table survey × (survey .sound ≡ true) ⌝ }
-    requires { ⌜ (isDomainId domain ≡ true) × (blocks ≤ 256) ⌝ }
-    ensures { λ r. ⌜ verdictNumber r ≡ firstNo (newBlocksQuestions table domain serials blocks) ⌝ }
-{
-    let tally = survey.tally;
-    let d = domain_at(table, domain);
-    let after = held_by(tally, domain) + blocks;
-    let covered = covered_with(table, survey, domain, reserved_by(d), after);
-    ask(serials_left(d, serials), Refusal::Serials).and(within_quota(d, after), Refusal::Quota)
-        .and(covered, Refusal::Coverage)
 }
 
 // A held block that is opened again isn't new.

@@ -1,4 +1,5 @@
-// The commands on blocks: Erase, Close and Free.
+// The commands on blocks: Erase, Close and Free. Write by placement opens blocks too: what is asked
+// for a new block and the opening itself serve it from here.
 mod closing;
 mod erasing;
 mod opening;
@@ -6,3 +7,5 @@ mod opening;
 pub use closing::close;
 pub use closing::free;
 pub use erasing::erase;
+pub use opening::new_blocks_verdict;
+pub use opening::opened_for;

@@ -1,23 +1,59 @@
-// Opening a block.
+// Opening a block: what is asked for it, and the change.
 use buffers::put_row;
 use geometry::adus_per_block;
 use geometry::stretch_start;
 use model::Domain;
+use model::Refusal;
 use model::Table;
 use model::Way;
+use tables::Survey;
+use tables::Verdict;
+use tables::ask;
 use tables::block_at;
+use tables::covered_with;
 use tables::domain_at;
+use tables::held_by;
+use tables::reserved_by;
+use tables::serials_left;
 use tables::with_block;
 use tables::with_domain;
+use tables::within_quota;
 ghost use mathlib.Core.Bool.{true};
 ghost use mathlib.Core.List.{[]};
 ghost use mathlib.Core.Path.{_≡_};
 ghost use Prim.Native.Nat.{_≤_};
 ghost use Rattle.blocks.specs.Opening.{MayOpen};
 ghost use Rattle.geometry.specs.Address.{isDomainId};
+ghost use Rattle.geometry.specs.Questions.{firstNo};
 ghost use Rattle.geometry.specs.Shape.{withinLimits};
 ghost use Rattle.rules.specs.Blocks.{nextSerial, openedFor, withLast};
 ghost use Rattle.tables.specs.Serving.{drive};
+ghost use Rattle.tables.specs.Survey.{Surveyed};
+ghost use Rattle.tables.specs.Verdicts.{newBlocksQuestions, verdictNumber};
+
+// ---- The questions
+
+// 12 to 14: are there serials, quota and coverage for so many new serials and blocks?
+pub fn new_blocks_verdict(
+    table: Table,
+    survey: Survey,
+    domain: u64,
+    serials: u32,
+    blocks: u64,
+) -> Verdict
+    requires { ⌜ Surveyed table survey × (survey .sound ≡ true) ⌝ }
+    requires { ⌜ (isDomainId domain ≡ true) × (blocks ≤ 256) ⌝ }
+    ensures { λ r. ⌜ verdictNumber r ≡ firstNo (newBlocksQuestions table domain serials blocks) ⌝ }
+{
+    let tally = survey.tally;
+    let d = domain_at(table, domain);
+    let after = held_by(tally, domain) + blocks;
+    let covered = covered_with(table, survey, domain, reserved_by(d), after);
+    ask(serials_left(d, serials), Refusal::Serials).and(within_quota(d, after), Refusal::Quota)
+        .and(covered, Refusal::Coverage)
+}
+
+// ---- The change
 
 fn with_last(domain: Domain, last: u32) -> Domain
     ensures { λ r. ⌜ r ≡ withLast last domain ⌝ }
@@ -43,13 +79,8 @@ fn opened_table(table: Table, domain: u64, way: Way, block: u64) -> Table
     with_domain(changed, domain, with_last(d, serial))
 }
 
-pub(crate) fn opened_for(
-    table: Table,
-    domain: u64,
-    way: Way,
-    block: u64,
-    store: &mut [u64],
-) -> Table
+// The block is opened for the domain, with entries of all ones.
+pub fn opened_for(table: Table, domain: u64, way: Way, block: u64, store: &mut [u64]) -> Table
     requires { ⌜ MayOpen (drive table (now store)) domain block ⌝ }
     ensures { λ r. ⌜ drive r (now (store .exit)) ≡ openedFor domain way block (drive table (now (store .entry))) ⌝ }
 {

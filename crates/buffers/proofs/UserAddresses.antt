@@ -1,5 +1,5 @@
 -- User addresses that can be told: where the start is not all ones, they are the numbers from the start on.
-use Prim.Native.Nat.{ℕ, _+_, _-_, _^_, _≤_, _<_}
+use Prim.Native.Nat.{ℕ, zero, suc, _+_, _-_, _^_, _≤_, _<_}
 use mathlib.Core.Bool.{Bool, true, false, not, _&&_, _||_}
 use mathlib.Core.Path.{_≡_, sym, _∙_}
 use native.Mathlib.Nat.{div-add-mod'}
@@ -40,6 +40,11 @@ fit-end start count most l e f =
     let other = eqb-false (userAddress start (count - 1)) allOnes (not-true _ (h .1)) in
     let ne : ¬ (start + (count - 1) ≡ allOnes) = λ s. other (plain-address start (count - 1) e ∙ s) in
     (omega arith, omega (arith, div-add-mod' start 1099511627776))
+
+-- So what would come next is a user address too.
+pub next-most : (start count : ℕ) → start ≤ allOnes → eqb start allOnes ≡ false → userAddressesFit start count ≡ true → start + count ≤ allOnes
+next-most start zero most e f = omega (arith, most)
+next-most start (suc count) most e f = fit-end start (suc count) most (omega arith) e f .1
 
 -- A fit of so many is a fit of fewer.
 pub fit-fewer : (start few count : ℕ) → few ≤ count → userAddressesFit start count ≡ true → userAddressesFit start few ≡ true

@@ -8,4 +8,5 @@ pub use fills::put_row;
 pub use fills::put_stretch;
 pub use user_addresses::ALL_ONES;
 pub use user_addresses::all_match;
+pub use user_addresses::user_address;
 pub use user_addresses::user_addresses_fit;

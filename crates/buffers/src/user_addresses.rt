@@ -17,8 +17,9 @@ pub fn user_addresses_fit(start: u64, count: u64) -> bool
     (start == ALL_ONES) | ((lba + count <= 0x100_0000_0000) & (start <= ALL_ONES - count))
 }
 
-fn user_address(start: u64, i: u64) -> u64
-    requires { ⌜ userAddressesFit start (i + 1) ≡ true ⌝ }
+// What ADU i carries, or would if it came next.
+pub fn user_address(start: u64, i: u64) -> u64
+    requires { ⌜ userAddressesFit start i ≡ true ⌝ }
     ensures { λ r. ⌜ r ≡ userAddress start i ⌝ }
 {
     if start == ALL_ONES { start } else { start + i }

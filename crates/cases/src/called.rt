@@ -3,33 +3,36 @@ use crate::tokens::Line;
 use crate::tokens::part_at;
 use geometry::Adus;
 use geometry::Planes;
-use manager::Served;
+use manager::serve;
 use model::Answer;
+use model::Command;
 use model::Listed;
 use model::Table;
 
-// The words that name a command, and two that follow one.
-pub const CREATE: u64 = 0x637265617465;
+// The words that name a command, and one that follows `list`.
+const CREATE: u64 = 0x637265617465;
 
-pub const CHANGE: u64 = 0x6368616e6765;
+const CHANGE: u64 = 0x6368616e6765;
 
-pub const DELETE: u64 = 0x64656c657465;
+const DELETE: u64 = 0x64656c657465;
 
-pub const ERASE: u64 = 0x6572617365;
+const ERASE: u64 = 0x6572617365;
 
-pub const CLOSE: u64 = 0x636c6f7365;
+const CLOSE: u64 = 0x636c6f7365;
 
-pub const FREE: u64 = 0x66726565;
+const FREE: u64 = 0x66726565;
 
-pub const WRITE: u64 = 0x7772697465;
+const PLACE: u64 = 0x706c616365;
 
-pub const READ: u64 = 0x72656164;
+const WRITE: u64 = 0x7772697465;
 
-pub const PAGE: u64 = 0x70616765;
+const READ: u64 = 0x72656164;
 
-pub const LIST: u64 = 0x6c697374;
+const PAGE: u64 = 0x70616765;
 
-pub const PULSE: u64 = 0x70756c7365;
+const LIST: u64 = 0x6c697374;
+
+const PULSE: u64 = 0x70756c7365;
 
 const OPEN: u64 = 0x6f70656e;
 
@@ -63,10 +66,10 @@ pub fn answered(answer: Answer, table: Table) -> Reply {
     }
 }
 
-fn reply_of(served: Served) -> Reply {
-    let answer = served.answer;
-    let table = served.table;
-    answered(answer, table)
+// What a line asks for, if its first word is a command.
+enum Asked {
+    Nothing,
+    For(Command),
 }
 
 fn listed_of(word: u64) -> Listed {
@@ -77,39 +80,70 @@ fn listed_of(word: u64) -> Listed {
     }
 }
 
-// The commands that are lent nothing. A word that is no command is answered 99.
-fn called_alone(table: Table, line: Line) -> Reply {
-    let word = part_at(line, 0);
+fn command_of(line: Line) -> Asked {
     let a = part_at(line, 1);
     let b = part_at(line, 2);
     let c = part_at(line, 3);
-    if word == CREATE {
-        let placements = part_at(line, 4);
-        let limit = part_at(line, 5);
-        return reply_of(manager::create(table, a, Planes(b), Planes(c), placements, limit));
-    }
-    if word == CHANGE {
-        return reply_of(manager::change_capacity(table, a, Planes(b), Planes(c)));
-    }
-    if word == DELETE {
-        return reply_of(manager::delete(table, a));
-    }
-    if word == CLOSE {
-        return reply_of(manager::close(table, a, b));
-    }
-    if word == FREE {
-        return reply_of(manager::free(table, a, b));
-    }
-    if word == PULSE {
-        return reply_of(manager::pulse(table, a));
-    }
-    Reply {
-        number: 99,
-        value: NONE,
-        table,
+    let d = part_at(line, 4);
+    let e = part_at(line, 5);
+    match part_at(line, 0) {
+        CREATE => Asked::For(Command::Create {
+            domain: a,
+            guarantee: Planes(b),
+            quota: Planes(c),
+            placements: d,
+            limit: e,
+        }),
+        CHANGE => Asked::For(Command::ChangeCapacity {
+            domain: a,
+            guarantee: Planes(b),
+            quota: Planes(c),
+        }),
+        DELETE => Asked::For(Command::Delete { domain: a }),
+        ERASE => Asked::For(Command::Erase {
+            domain: a,
+            block: b,
+        }),
+        CLOSE => Asked::For(Command::Close {
+            domain: a,
+            block: b,
+        }),
+        FREE => Asked::For(Command::Free {
+            domain: a,
+            block: b,
+        }),
+        PLACE => Asked::For(Command::WriteByPlacement {
+            domain: a,
+            placement: b,
+            start: c,
+            count: Adus(d),
+        }),
+        WRITE => Asked::For(Command::WriteByBlock {
+            domain: a,
+            block: b,
+            start: c,
+            count: Adus(d),
+        }),
+        READ => Asked::For(Command::Read {
+            domain: a,
+            address: b,
+            count: Adus(c),
+            expected: d,
+        }),
+        PAGE => Asked::For(Command::Page {
+            domain: a,
+            block: b,
+        }),
+        LIST => Asked::For(Command::List {
+            domain: a,
+            listed: listed_of(b),
+        }),
+        PULSE => Asked::For(Command::Pulse { seconds: a }),
+        _ => Asked::Nothing,
     }
 }
 
+// The command is served. A word that is no command is answered 99.
 pub fn called(
     table: Table,
     line: Line,
@@ -117,25 +151,17 @@ pub fn called(
     words: &mut [u64],
     bytes: &mut [u8],
 ) -> Reply {
-    let word = part_at(line, 0);
-    let a = part_at(line, 1);
-    let b = part_at(line, 2);
-    let c = part_at(line, 3);
-    let d = part_at(line, 4);
-    if word == ERASE {
-        return reply_of(manager::erase(table, a, b, store));
+    match command_of(line) {
+        Asked::Nothing => Reply {
+            number: 99,
+            value: NONE,
+            table,
+        },
+        Asked::For(command) => {
+            let served = serve(table, command, store, words, bytes);
+            let answer = served.answer;
+            let after = served.table;
+            answered(answer, after)
+        }
     }
-    if word == WRITE {
-        return reply_of(manager::write_by_block(table, a, b, c, Adus(d), store, words));
-    }
-    if word == READ {
-        return answered(manager::read(table, a, b, Adus(c), d, store, words), table);
-    }
-    if word == PAGE {
-        return answered(manager::page(table, a, b, bytes), table);
-    }
-    if word == LIST {
-        return answered(manager::list(table, a, listed_of(b), bytes), table);
-    }
-    called_alone(table, line)
 }

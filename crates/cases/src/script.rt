@@ -9,9 +9,18 @@
 //     entries AT COUNT FIRST STEP                 set entries of the store: FIRST, FIRST + STEP, ..
 //     words AT COUNT FIRST STEP                   the same of the lent words
 //     bytes AT B B ..                             bytes of the lent bytes
-//     want ..                                     one of these five, for what the next command leaves
+//     want ..                                     one of these six, for what the next command leaves
 //     lend store|words|bytes N                    the length that is lent from then on
-//     create|change|delete|erase|close|free|write|read|page|list|pulse ARGUMENTS = NUMBER [BLOCK]
+//     create D GUARANTEE QUOTA PLACEMENTS LIMIT = NUMBER
+//     change D GUARANTEE QUOTA = NUMBER
+//     delete D = NUMBER
+//     erase|close|free D BLOCK = NUMBER [BLOCK]
+//     place D P START N = NUMBER                  Write by placement P
+//     write D BLOCK START N = NUMBER              Write by block
+//     read D ADDRESS N EXPECTED = NUMBER
+//     page D BLOCK = NUMBER
+//     list D open|closed = NUMBER
+//     pulse SECONDS = NUMBER
 //
 // A command is called on the drive as it is. Its answer is compared with what stands behind the `=`,
 // and the whole table, store, words and bytes with what is wanted: what they were, but for the `want`
@@ -31,7 +40,6 @@ use crate::desk::set_row;
 use crate::desk::with_block;
 use crate::desk::with_config;
 use crate::desk::with_domain;
-use crate::report;
 use crate::tokens::Line;
 use crate::tokens::line_end;
 use crate::tokens::line_of;
@@ -194,10 +202,10 @@ fn told(
     tell(words, b"words");
     tell(bytes, b"bytes");
     if !answer {
-        io::write_all(STDOUT_FILENO, b"; answers");
-        report::number(number);
+        io::write_all(STDOUT_FILENO, b"; answers ");
+        io::print_decimal(STDOUT_FILENO, number);
     }
-    report::end();
+    io::write_all(STDOUT_FILENO, b"\n");
 }
 
 // A table with these numbers and nothing else.
@@ -308,7 +316,7 @@ fn is_plain(line: Line, text: &[u8]) -> bool {
 fn plain(desk: Desk, line: Line, text: &[u8]) -> Desk {
     if is_heading(text) {
         io::write_all(STDOUT_FILENO, text);
-        report::end();
+        io::write_all(STDOUT_FILENO, b"\n");
         return desk;
     }
     let word = part_at(line, 0);

@@ -33,7 +33,8 @@ fn better(choice: Choice, n: u64, block: Block) -> Choice
     }
 }
 
-fn chosen_block(table: Table) -> Choice
+// The Free block with the least P/E count, the lowest number among equals.
+pub fn chosen_block(table: Table) -> Choice
     requires { ⌜ size table ≤ 256 ⌝ }
     ensures { λ r. ⌜ chosen r ≡ chosenBlock table ⌝ }
 {

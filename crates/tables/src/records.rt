@@ -8,7 +8,7 @@ use model::Table;
 use model::Way;
 ghost use mathlib.Core.Path.{_≡_};
 ghost use Prim.Native.Nat.{_-_};
-ghost use Rattle.rules.specs.Drive.{blockAt, clearBlock, clearDomain, domainAt, isClosed, isFree, isOpen, isOpenByErase, withBlock, withDomain};
+ghost use Rattle.rules.specs.Drive.{blockAt, clearBlock, clearDomain, domainAt, isClosed, isFree, isOpen, isOpenByErase, isOpenFor, withBlock, withDomain};
 
 pub fn clear_block() -> Block
     ensures { λ r. ⌜ r ≡ clearBlock ⌝ }
@@ -129,6 +129,21 @@ pub fn is_open_by_erase(block: Block) -> bool
         State::Open(way) => match way {
             Way::Erase => true,
             Way::Placement(_) => false,
+        },
+        State::Closed(_) => false,
+    }
+}
+
+// Is it Open for Nameless Write, for this placement?
+pub fn is_open_for(placement: u8, block: Block) -> bool
+    ensures { λ r. ⌜ r ≡ isOpenFor placement block ⌝ }
+{
+    let state = block.state;
+    match state {
+        State::Free => false,
+        State::Open(way) => match way {
+            Way::Erase => false,
+            Way::Placement(p) => p == placement,
         },
         State::Closed(_) => false,
     }

@@ -2,6 +2,7 @@
 // the clauses of soundness that speak of one block, one over the domains gives the coverage and the
 // clauses that speak of one domain.
 use crate::records::is_free;
+use crate::records::is_open_for;
 use crate::tally::Tally;
 use crate::tally::held_by;
 use crate::tally::opened_by;
@@ -17,7 +18,6 @@ ghost use mathlib.Core.Bool.{true};
 ghost use mathlib.Core.Path.{_≡_};
 ghost use Prim.Native.Nat.{_<_, _≤_, max};
 ghost use Rattle.geometry.specs.Shape.{withinLimits};
-ghost use Rattle.rules.specs.Drive.{isOpenFor};
 ghost use Rattle.rules.specs.Soundness.{samePlacement, wayBelow};
 ghost use Rattle.tables.specs.Survey.{BlocksSurveyed, DomainsSurveyed, Small, Surveyed};
 ghost use Rattle.tables.specs.Survey.{blockSound, domainSound, isOwned, notSound, pairSound, pairsSound, slot};
@@ -106,20 +106,6 @@ fn survey_blocks(table: Table) -> Survey
         sound,
         coverage: 0,
         tally,
-    }
-}
-
-fn is_open_for(placement: u8, block: Block) -> bool
-    ensures { λ r. ⌜ r ≡ isOpenFor placement block ⌝ }
-{
-    let state = block.state;
-    match state {
-        State::Free => false,
-        State::Open(way) => match way {
-            Way::Erase => false,
-            Way::Placement(p) => p == placement,
-        },
-        State::Closed(_) => false,
     }
 }
 

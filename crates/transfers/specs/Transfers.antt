@@ -11,7 +11,7 @@ use Rattle.geometry.specs.declared.shape.Adus.{Adus}
 use Rattle.model.specs.declared.answer.Answer.{Answer}
 use Rattle.model.specs.declared.answer.Answer.the-variants.{Done, Refused}
 use Rattle.model.specs.declared.answer.Refusal.the-variants.{Mismatch}
-use Rattle.rules.specs.Blocks.{matches, writtenInto}
+use Rattle.rules.specs.Blocks.{Written, matches}
 use Rattle.rules.specs.Drive.{Drive, blockAt, capacity, overwritten, size}
 
 -- What writing so many ADUs into a block needs.
@@ -27,10 +27,10 @@ pub record MayWrite (v : Drive) (d n count : ℕ) : Type 0 where
 abbrev pub addressIn : ℕ → ℕ → Adus → FlashAddress
 addressIn d n offset = record { domain = d; block = n; offset = offset }
 
--- A write into a block as the rules have it: the drive after it, and the words with the flash addresses in front.
-pub record WritesInto (v : Drive) (d n : ℕ) (users words : List ℕ) (w : Drive) (filled : List ℕ) : Type 0 where
-  pub leaves : w ≡ writtenInto d n users v .drive
-  pub fills : filled ≡ overwritten 0 (writtenInto d n users v .addresses) words
+-- A write as the rules have it: the drive after it, and the words with the flash addresses in front.
+pub record Wrote (w : Written) (words : List ℕ) (v : Drive) (filled : List ℕ) : Type 0 where
+  pub leaves : v ≡ w .drive
+  pub fills : filled ≡ overwritten 0 (w .addresses) words
 
 -- Question 16 for a stretch of the store: it is given, or nothing is.
 pub record ReadsStretch (expected : ℕ) (stretch words : List ℕ) (answer : Answer) (filled : List ℕ) : Type 0 where

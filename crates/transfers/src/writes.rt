@@ -33,14 +33,14 @@ ghost use Rattle.geometry.specs.Address.{wordOf};
 ghost use Rattle.geometry.specs.Answers.{addressQuestions};
 ghost use Rattle.geometry.specs.Questions.{firstNo};
 ghost use Rattle.model.specs.declared.command.Command.the-variants.{WriteByBlock};
-ghost use Rattle.rules.specs.Blocks.{userAddresses};
+ghost use Rattle.rules.specs.Blocks.{userAddresses, writtenInto};
 ghost use Rattle.rules.specs.Drive.{overwritten};
 ghost use Rattle.rules.specs.Effects.{Serves};
 ghost use Rattle.rules.specs.Questions.{isCount, questions, userAddressesFit};
 ghost use Rattle.rules.specs.Soundness.{sound};
 ghost use Rattle.tables.specs.Serving.{drive, served};
 ghost use Rattle.tables.specs.Verdicts.{lending, verdictNumber};
-ghost use Rattle.transfers.specs.Transfers.{MayWrite, WritesInto, addressIn};
+ghost use Rattle.transfers.specs.Transfers.{MayWrite, Wrote, addressIn};
 
 // ---- Into a block
 
@@ -70,7 +70,7 @@ fn put_user_addresses(store: &mut [u64], at: usize, count: usize, start: u64)
 
 // User addresses go into a block from its first unwritten ADU on, and their flash addresses into the
 // words.
-fn written_into(
+pub fn written_into(
     table: Table,
     domain: u64,
     block: u64,
@@ -82,7 +82,7 @@ fn written_into(
     requires { ⌜ MayWrite (drive table (now store)) domain block (count .0) ⌝ }
     requires { ⌜ userAddressesFit start (count .0) ≡ true ⌝ }
     requires { ⌜ count .0 ≤ length (now words) ⌝ }
-    ensures { λ r. ⌜ WritesInto (drive table (now (store .entry))) domain block (userAddresses start (count .0)) (now (words .entry)) (drive r (now (store .exit))) (now (words .exit)) ⌝ }
+    ensures { λ r. ⌜ Wrote (writtenInto domain block (userAddresses start (count .0)) (drive table (now (store .entry)))) (now (words .entry)) (drive r (now (store .exit))) (now (words .exit)) ⌝ }
 {
     let config = table.config;
     let b = block_at(table, block);

@@ -66,7 +66,7 @@ module _ (v : Drive) (lent : Lengths) (fit : Fit v lent) where
       (λ e. rw e (same-sequel 0 v (fit .facts) .sequel))
 
   -- .. and any call.
-  call-sequel : (c : Command) → Sequel v (driveAfter v lent c)
+  pub call-sequel : (c : Command) → Sequel v (driveAfter v lent c)
   call-sequel (Create d guarantee quota placements limit) = own-sequel (Create d guarantee quota placements limit) refl .sequel
   call-sequel (ChangeCapacity d guarantee quota) = own-sequel (ChangeCapacity d guarantee quota) refl .sequel
   call-sequel (Delete d) = own-sequel (Delete d) refl .sequel

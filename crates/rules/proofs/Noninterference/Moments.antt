@@ -42,7 +42,7 @@ empty-course c store e l = record {
   store = l;
 }
 
-begun-course : (c : Config) (store : List ℕ) → withinLimits c ≡ true → length store ≡ storeLength c .0 → Course (begun c store)
+pub begun-course : (c : Config) (store : List ℕ) → withinLimits c ≡ true → length store ≡ storeLength c .0 → Course (begun c store)
 begun-course c store e l = subst Course (sym (begun-empty c store e)) (empty-course c store e l)
 
 -- No domain exists or holds a block, so that none can tell two stores apart.

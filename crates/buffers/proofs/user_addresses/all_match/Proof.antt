@@ -37,7 +37,7 @@ shared-slice-read-same c = omega arith
 user-address-requires : tie.Need-user-address-requires Inv-loop μ-loop
 user-address-requires c κs =
     let z = c .before .before .before .before .before in
-    fit-fewer (z .args .expected) (c .before .before .loop .i + 1) (length (z .args .part .now)) (omega arith) (z .pre)
+    fit-fewer (z .args .expected) (c .before .before .loop .i) (length (z .args .part .now)) (omega arith) (z .pre)
 
 add-i : tie.Need-add-i Inv-loop μ-loop
 add-i c = omega arith

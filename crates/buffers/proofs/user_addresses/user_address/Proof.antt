@@ -1,9 +1,8 @@
 -- All ones where the start is all ones, else the start and so many more.
-use Prim.Native.Nat.{_+_}
 use mathlib.Core.Path.{sym}
 use native.Mathlib.Omega.{arith}
 use borrow.Author.Tests.{eq-eqb, ne-eqb}
-use Rattle.buffers.proofs.UserAddresses.{fit-end, ones-address, plain-address}
+use Rattle.buffers.proofs.UserAddresses.{next-most, ones-address, plain-address}
 use Rattle.rules.specs.Blocks.{allOnes}
 use Rattle.buffers.proofs.user_addresses.user_address.Statement.{statement}
 use Rattle.buffers.proofs.user_addresses.user_address.Tie as tie
@@ -11,7 +10,7 @@ use Rattle.buffers.proofs.user_addresses.user_address.Tie as tie
 add-result : tie.Need-add-result
 add-result c =
     let z = c .before .args in
-    omega (arith, fit-end (z .start) (z .i + 1) (omega arith) (omega arith) (ne-eqb (z .start) allOnes (c .if1 .left)) (c .before .pre) .1)
+    omega (arith, next-most (z .start) (z .i) (omega arith) (ne-eqb (z .start) allOnes (c .if1 .left)) (c .before .pre))
 
 returns : tie.Need-returns
 returns c = let z = c .before .args in sym (ones-address (z .start) (z .i) (eq-eqb (z .start) allOnes (c .if1 .taken)))

@@ -13,7 +13,7 @@ use Rattle.transfers.proofs.writes.put_user_addresses.Tie as tie
 
 put-row-requires : tie.Need-put-row-requires
 put-row-requires c κs = let z = c .before .before in
-    (z .pre .0, λ e. omega (arith, fit-end (z .args .start) (z .args .count) (omega arith) (z .pre .1 .0) (not-true _ e) (z .pre .1 .1) .1))
+    (omega (arith, z .pre .0, z .pre .1 .0), λ e. omega (arith, fit-end (z .args .start) (z .args .count) (omega arith) (z .pre .1 .0) (not-true _ e) (z .pre .1 .1) .1))
 
 same-length : tie.Need-same-length
 same-length c = search needs

@@ -1,0 +1,43 @@
+-- The buffer that is lent has the length asked for.
+use mathlib.Core.Path.{sym}
+use lib.Seq.{length-take-le}
+use borrow.Author.Needs.{needs}
+use Rattle.address_cases.proofs.calls.host_taken.Statement.{statement}
+use Rattle.address_cases.proofs.calls.host_taken.Tie as tie
+
+at-most-64-requires : tie.Need-at-most-64-requires
+at-most-64-requires c κs = search needs
+
+array-borrow-prefix-bytes : tie.Need-array-borrow-prefix-bytes
+array-borrow-prefix-bytes c = search needs
+
+slice-aggregate-sbm-parse-flash-address : tie.Need-slice-aggregate-sbm-parse-flash-address
+slice-aggregate-sbm-parse-flash-address c = sym (length-take-le (c .before .at-most-64 .result) _ (c .before .at-most-64 .ensures))
+
+sbm-parse-flash-address-requires : tie.Need-sbm-parse-flash-address-requires
+sbm-parse-flash-address-requires c κs = search needs
+
+seven-at-start-requires : tie.Need-seven-at-start-requires
+seven-at-start-requires c κs = search needs
+
+filled-requires : tie.Need-filled-requires
+filled-requires c κs = search needs
+
+kept-from-requires : tie.Need-kept-from-requires
+kept-from-requires c κs = search needs
+
+returns : tie.Need-returns
+returns c = search needs
+
+pub host-taken-spec : {M : Type 1} → statement M
+host-taken-spec =
+    tie.close
+    (tie.spec
+    at-most-64-requires
+    array-borrow-prefix-bytes
+    slice-aggregate-sbm-parse-flash-address
+    sbm-parse-flash-address-requires
+    seven-at-start-requires
+    filled-requires
+    kept-from-requires
+    returns)

@@ -1,0 +1,222 @@
+-- Every list of calls, from the start of every configuration within limits and with every first store, is that of a run.
+use Prim.Native.Nat.{ℕ, _+_, _-_, _≤_}
+use mathlib.Core.Bool.{true, cond}
+use mathlib.Core.List.{List, [], _∷_, map}
+use mathlib.Core.Option.{Option, none, some}
+use mathlib.Core.Path.{_≡_, refl, sym, ap, ap₂, _∙_, subst}
+use native.Mathlib.Omega.{arith}
+use lib.Dec.{eqb, ltb}
+use lib.ListN.{getD, length, length-replicate, replicate}
+use borrow.Author.Tests.{eqb-false, eqb-true, leb-true, ltb-true}
+use denote.Ref.{RefT}
+use Rattle.geometry.proofs.Laws.Questions.{answered-no, answered-yes}
+use Rattle.geometry.proofs.Laws.Shape.{both, by-test}
+use Rattle.geometry.specs.Questions.{Question, firstNo, refusal, success}
+use Rattle.geometry.specs.Shape.{storeLength, withinLimits}
+use Rattle.geometry.specs.declared.shape.Config.{Config}
+use Rattle.isolation.specs.Calls.{ServeCall, StartCall, storeBefore, tableBefore}
+use Rattle.isolation.specs.Runs.{Handed, RunOf, callOf, isOwnStore, left}
+use Rattle.isolation.proofs.Reference.{same-config}
+use Rattle.isolation.proofs.Steps.{Stepped, stepped}
+use Rattle.model.specs.Answers.{numberOf, outcomeOf}
+use Rattle.model.specs.declared.answer.Answer.{Answer}
+use Rattle.model.specs.declared.answer.Answer.the-variants as given
+use Rattle.model.specs.declared.answer.Refusal.{Refusal}
+use Rattle.model.specs.declared.answer.Refusal.the-variants.{Limits, Unsound, Store, DomainId, Existence, Range, Output, UserAddress}
+use Rattle.model.specs.declared.answer.Refusal.the-variants.{Holder, BlockState, OpenLimit, Serials, Quota, Coverage, Extent, Mismatch}
+use Rattle.model.specs.declared.command.Command.{Command}
+use Rattle.model.specs.declared.command.Command.the-variants.{ChangeCapacity, Close, Create, Delete, Erase, Free, List as Listing, Page, Pulse, Read}
+use Rattle.model.specs.declared.command.Command.the-variants.{WriteByBlock, WriteByPlacement}
+use Rattle.model.specs.declared.table.Table.{Table}
+use Rattle.rules.proofs.Counting.{all-each}
+use Rattle.rules.proofs.Kept.Calls.{Course, course-step}
+use Rattle.rules.proofs.Laws.{always-answered, questions-in-order, start-accepted}
+use Rattle.rules.proofs.Noninterference.Moments.{begun-course}
+use Rattle.rules.specs.Blocks.{erasedBlock}
+use Rattle.rules.specs.Claims.{rising}
+use Rattle.rules.specs.Counting.{allTo}
+use Rattle.rules.specs.Drive.{Drive}
+use Rattle.rules.specs.Effects.{Serves, accepted, answerTo, effect, erasing, verdict}
+use Rattle.rules.specs.Questions.{Lengths, questions}
+use Rattle.rules.specs.Runs.{Call, begun, step}
+use Rattle.rules.specs.Start.{Started, emptyTable}
+use Rattle.tables.specs.Serving.{drive, served}
+use Rattle.tables.specs.declared.served.Served.{Served}
+
+-- ---- An answer for every outcome
+
+-- The refusals in the order of their numbers, so that each number of a question is that of a refusal.
+abbrev refusals : List Refusal
+refusals =
+    Limits ∷ Unsound ∷ Store ∷ DomainId ∷ Existence ∷ Range ∷ Output ∷ UserAddress
+    ∷ Holder ∷ BlockState ∷ OpenLimit ∷ Serials ∷ Quota ∷ Coverage ∷ Extent ∷ Mismatch ∷ []
+
+numbered : allTo (λ n. eqb (numberOf (getD refusals n Limits)) (n + 1)) 16 ≡ true
+unfolding allTo
+numbered = refl
+
+refusal-of : (n : ℕ) → 1 ≤ n → n ≤ 16 → (r : Refusal) × (numberOf r ≡ n)
+refusal-of n least most =
+    let r = getD refusals (n - 1) Limits in
+    let e = eqb-true (numberOf r) (n - 1 + 1) (all-each 16 (λ m. eqb (numberOf (getD refusals m Limits)) (m + 1)) numbered (n - 1) (omega (arith, least, most))) in
+    (r, omega (arith, e, least))
+
+-- No first no has a number above 16.
+last-most : (last : ℕ) (qs : List Question) → rising last qs ≡ true → last ≤ 16
+unfolding rising
+last-most last [] e = leb-true last 16 e
+last-most last (q ∷ qs) e =
+    let h = both (ltb last (q .number)) (rising (q .number) qs) e in
+    omega (arith, ltb-true last (q .number) (h .0), last-most (q .number) qs (h .1))
+
+first-most : (last : ℕ) (qs : List Question) → rising last qs ≡ true → firstNo qs ≤ 16
+unfolding rising firstNo
+first-most last [] e = omega arith
+first-most last (q ∷ qs) e =
+    let h = both (ltb last (q .number)) (rising (q .number) qs) e in
+    by-test (q .holds)
+    (λ b. rw b (first-most (q .number) qs (h .1)))
+    (λ b. rw b (last-most (q .number) qs (h .1)))
+
+-- Erase, Close and Free answer a block number, the other commands success alone.
+erase-answer : (d : ℕ) (block : Option ℕ) (v : Drive) → (a : Answer) × (outcomeOf a ≡ success (erasing d block v .values))
+erase-answer d none v = (given.Done, refl)
+erase-answer d (some n) v = (given.Block n, refl)
+
+success-of : (c : Command) (v : Drive) → (a : Answer) × (outcomeOf a ≡ success (effect c v .values))
+unfolding effect
+success-of (Create d guarantee quota placements limit) v = (given.Done, refl)
+success-of (ChangeCapacity d guarantee quota) v = (given.Done, refl)
+success-of (Delete d) v = (given.Done, refl)
+success-of (Erase d n) v = erase-answer d (erasedBlock (v .table) n) v
+success-of (Close d n) v = (given.Block n, refl)
+success-of (Free d n) v = (given.Block n, refl)
+success-of (WriteByPlacement d p start count) v = (given.Done, refl)
+success-of (WriteByBlock d n start count) v = (given.Done, refl)
+success-of (Read d address count expected) v = (given.Done, refl)
+success-of (Page d n) v = (given.Done, refl)
+success-of (Listing d which) v = (given.Done, refl)
+success-of (Pulse seconds) v = (given.Done, refl)
+
+answer-of : (v : Drive) (lent : Lengths) (c : Command) → (a : Answer) × (outcomeOf a ≡ answerTo v lent c)
+answer-of v lent c =
+    let qs = questions v lent c in
+    let values = effect c v .values in
+    by-test (accepted v lent c)
+    (λ e.
+    let s = success-of c v in
+    (s .0, s .1 ∙ sym (answered-yes qs values (eqb-true (verdict v lent c) 0 e))))
+    (λ e.
+    let some-no = eqb-false (verdict v lent c) 0 e in
+    let least : 1 ≤ verdict v lent c = omega (arith, some-no) in
+    let r = refusal-of (verdict v lent c) least (first-most 1 qs (questions-in-order v lent c)) in
+    (given.Refused (r .0), ap refusal (r .1) ∙ sym (answered-no qs values (verdict v lent c) least refl)))
+
+-- ---- A call with a result that its contract allows
+
+-- A lent buffer of this content; where it lies does not matter.
+abbrev lent : List ℕ → RefT (List ℕ)
+lent content = record { ptr = (0, 0); name = 0; now = content }
+
+abbrev made : (t : Table) (c : Command) (store words bytes : List ℕ) (r : Served) (store' words' bytes' : List ℕ)
+    → Serves (drive t store) c words bytes (served r store' words' bytes')
+    → ServeCall
+made t c store words bytes r store' words' bytes' s = record {
+  lifetimes = ([], ([], ([], tt)));
+  arguments = (t, (c, (lent store, (lent words, (lent bytes, tt)))));
+  result = r;
+  exit = (t, (c, (lent store', (lent words', (lent bytes', tt)))));
+  meets = s;
+}
+
+-- On every table, for every command and whatever is lent there is one.
+any-call : (t : Table) (c : Command) (store words bytes : List ℕ)
+    → (k : ServeCall) × (tableBefore k ≡ t) × (storeBefore k ≡ store)
+    × (callOf k ≡ record { command = c; lent = record { store = length store; words = length words; bytes = length bytes } })
+any-call t c store words bytes =
+    let v = drive t store in
+    let x = always-answered v c words bytes in
+    let r = x .0 in
+    let a = answer-of v (record { store = length store; words = length words; bytes = length bytes }) c in
+    let s : Serves v c words bytes (served (record { answer = a .0; table = r .drive .table }) (r .drive .store) (r .words) (r .bytes)) =
+    record { answers = a .1; leaves = x .1 .leaves; fills-words = x .1 .fills-words; fills-bytes = x .1 .fills-bytes } in
+    (made t c store words bytes (record { answer = a .0; table = r .drive .table }) (r .drive .store) (r .words) (r .bytes) s, refl, refl, refl)
+
+-- ---- Lists of calls
+
+abbrev zeros : ℕ → List ℕ
+zeros n = replicate n 0
+
+zeros-long : (n : ℕ) → length (zeros n) ≡ n
+zeros-long n = length-replicate {A = ℕ} n 0
+
+-- What a call that is lent so many entries is lent: the run's own store, or zeros.
+abbrev storeFor : Config → Lengths → Drive → List ℕ
+storeFor c l v = cond (eqb (l .store) (storeLength c .0)) (v .store) (zeros (l .store))
+
+store-long : (c : Config) (l : Lengths) (v : Drive) → length (v .store) ≡ storeLength c .0 → length (storeFor c l v) ≡ l .store
+store-long c l v whole =
+    by-test (eqb (l .store) (storeLength c .0))
+    (λ e. rw e (whole ∙ sym (eqb-true (l .store) (storeLength c .0) e)))
+    (λ e. rw e (zeros-long (l .store)))
+
+-- A list of the program's calls that are these.
+record Made (c : Config) (ks : List Call) (v : Drive) : Type 0 where
+  calls : List ServeCall
+  are : map callOf calls ≡ ks
+  handed : Handed c calls v
+
+made-all : (c : Config) (ks : List Call) (v : Drive) → Course v → v .table .config ≡ c → Made c ks v
+unfolding Handed
+made-all c [] v course config = record { calls = []; are = refl; handed = tt }
+made-all c (k ∷ ks) v course config =
+    let store = storeFor c (k .lent) v in
+    let x = any-call (v .table) (k .command) store (zeros (k .lent .words)) (zeros (k .lent .bytes)) in
+    let s = x .0 in
+    let long = store-long c (k .lent) v (course .store ∙ ap (λ (y : Config). storeLength y .0) config) in
+    let is : callOf s ≡ k =
+    x .3 ∙ (λ i. record { command = k .command; lent = record { store = long i; words = zeros-long (k .lent .words) i; bytes = zeros-long (k .lent .bytes) i } }) in
+    let own : isOwnStore c s ≡ true → storeBefore s ≡ v .store = λ e.
+    let fits : eqb (k .lent .store) (storeLength c .0) ≡ true =
+    ap (λ (n : ℕ). eqb n (storeLength c .0)) (sym (ap length (x .2) ∙ long)) ∙ e in
+    x .2 ∙ rw fits in
+    let steps = subst (λ (y : Config). Stepped y s v) config
+    (stepped s v course (x .1) (λ e. own (subst (λ (y : Config). isOwnStore y s ≡ true) config e))) in
+    let moved : left c s v ≡ step k v = steps .leaves ∙ ap (λ (y : Call). step y v) is in
+    let rest = made-all c ks (step k v) (course-step k v course) (same-config k v course ∙ config) in
+    record {
+      calls = s ∷ rest .calls;
+      are = ap₂ (λ (y : Call) (ys : List Call). y ∷ ys) is (rest .are);
+      handed = (x .1, own, subst (Handed c (rest .calls)) (sym moved) (rest .handed));
+    }
+
+-- ---- Runs
+
+abbrev started-call : (c : Config) → withinLimits c ≡ true → StartCall
+started-call c within = record {
+  lifetimes = tt;
+  arguments = (c, tt);
+  result = record { answer = given.Done; table = emptyTable c };
+  exit = (c, tt);
+  meets = sym (start-accepted c within);
+}
+
+-- Every list of calls is that of a run.
+pub runs-every-list : (c : Config) (store : List ℕ) (ks : List Call) → withinLimits c ≡ true → length store ≡ storeLength c .0 → RunOf c store ks
+runs-every-list c store ks within whole =
+    let begins = start-accepted c within in
+    let m = made-all c ks (begun c store) (begun-course c store within whole) (ap (λ (x : Started). x .table .config) begins) in
+    let same : begun c store ≡ drive (emptyTable c) store = ap (λ (x : Started). drive (x .table) store) begins in
+    record {
+      its = record {
+        start = started-call c within;
+        accepted = refl;
+        store = store;
+        whole = whole;
+        calls = m .calls;
+        handed = subst (Handed c (m .calls)) same (m .handed);
+      };
+      configured = refl;
+      lent-first = refl;
+      called = m .are;
+    }

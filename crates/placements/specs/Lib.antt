@@ -1,0 +1,2 @@
+-- What Write by placement's functions hand on to each other.
+pub mod Placing
