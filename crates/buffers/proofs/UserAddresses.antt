@@ -23,11 +23,11 @@ unfolding userAddress
 ones-address start i e = rw e (sym (eqb-true start allOnes e))
 
 -- What question 8 asks of each address.
-abbrev fitsAt : ℕ → ℕ → Bool
+abbrev pub fitsAt : ℕ → ℕ → Bool
 fitsAt start i = leb (lba start + i) (2 ^ 40 - 1) && not (eqb (userAddress start i) allOnes)
 
 -- Where they fit and the start is not all ones, each fits.
-each-fits : (start count i : ℕ) → eqb start allOnes ≡ false → userAddressesFit start count ≡ true → i < count → fitsAt start i ≡ true
+pub each-fits : (start count i : ℕ) → eqb start allOnes ≡ false → userAddressesFit start count ≡ true → i < count → fitsAt start i ≡ true
 unfolding userAddressesFit
 each-fits start count i e f l = all-each count (fitsAt start) (rw e at f) i l
 

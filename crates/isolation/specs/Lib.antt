@@ -1,5 +1,5 @@
--- Demand 3 of the program: its calls, its runs, and the claim about them.
+-- Demand 3 of the program: its calls, its runs, two of them, and the claim.
 pub mod Calls
 pub mod Runs
-pub mod Claim
 pub mod Example
+pub mod Claim

@@ -40,6 +40,7 @@ Handed c [] v = Unit {0}
 Handed c (k ∷ ks) v =
     (tableBefore k ≡ v .table) × (isOwnStore c k ≡ true → storeBefore k ≡ v .store) × Handed c ks (left c k v)
 
+-- A run: an accepted start, a first store of S × C entries of any content, and calls, each handed what the last one left.
 pub record Run : Type 0 where
   pub start : StartCall
   pub accepted : startAnswer start ≡ success []

@@ -25,7 +25,7 @@ use Rattle.placements.specs.Placing.{MayGoOn, blocksFor}
 use Rattle.rules.proofs.Blocks.{Choice, choice}
 use Rattle.rules.proofs.Drive.{overwritten-nothing}
 use Rattle.rules.proofs.Store.{length-overwritten}
-use Rattle.rules.proofs.Writes.{inside}
+use Rattle.rules.proofs.Writes.{inside, none-written, onwards-zero}
 use Rattle.rules.specs.Blocks.{Written, chosenBlock, openedFor, userAddress, userAddresses, writtenInto, writtenOnwards}
 use Rattle.rules.specs.Drive.{Drive, blockAt, clearBlock, clearDomain, domainAt, overwritten, size}
 use Rattle.rules.specs.Questions.{userAddressesFit}
@@ -72,31 +72,20 @@ wrote-nothing w v words e = record {
   fills = sym (overwritten-nothing words) ∙ ap (λ (x : Written). overwritten 0 (x .addresses) words) (sym e);
 }
 
--- Nothing is written into no blocks, ..
-no-blocks : (d p : ℕ) (users : List ℕ) (v : Drive) → writtenOnwards d p 0 users v ≡ record { drive = v; addresses = [] }
-unfolding writtenOnwards
-no-blocks d p users v = refl
-
--- .. so where nothing is left, ..
+-- So it is where nothing is left, ..
 pub wrote-none-left : (d p start count : ℕ) (v : Drive) (words : List ℕ) → MayGoOn v d count → count ≡ 0
     → Wrote (onwards d p start count v) words v words
 wrote-none-left d p start count v words may e =
     let no : blocksFor (v .table) count ≡ 0 =
     ap (blocksFor (v .table)) e ∙ blocks-none (v .table) (omega (arith, limits (v .table .config) (may .limits) .adus .least)) in
     let users = userAddresses start count in
-    wrote-nothing (onwards d p start count v) v words (ap (λ (k : ℕ). writtenOnwards d p k users v) no ∙ no-blocks d p users v)
+    wrote-nothing (onwards d p start count v) v words (ap (λ (k : ℕ). writtenOnwards d p k users v) no ∙ onwards-zero (v .table .config) d p users v)
 
 -- .. and where no block is Free.
-none-free : (d p more : ℕ) (users : List ℕ) (v : Drive) → chosenBlock (v .table) ≡ none
-    → writtenOnwards d p more users v ≡ record { drive = v; addresses = [] }
-unfolding writtenOnwards
-none-free d p zero users v e = refl
-none-free d p (suc more) users v e = rw (e, none-free d p more (drop (adusPerBlock (v .table .config) .0) users) v e)
-
 pub wrote-none-free : (d p start count : ℕ) (v : Drive) (words : List ℕ) → chosenBlock (v .table) ≡ none
     → Wrote (onwards d p start count v) words v words
 wrote-none-free d p start count v words e =
-    wrote-nothing (onwards d p start count v) v words (none-free d p (blocksFor (v .table) count) (userAddresses start count) v e)
+    wrote-nothing (onwards d p start count v) v words (none-written (v .table .config) d p (blocksFor (v .table) count) (userAddresses start count) v e)
 
 -- ---- What opening leaves
 

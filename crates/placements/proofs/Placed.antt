@@ -30,7 +30,7 @@ use Rattle.rules.specs.Soundness.{countsKept}
 use Rattle.transfers.specs.Transfers.{MayWrite}
 
 -- The blocks that are opened are those that what the open block does not take fills or begins.
-new-for : (t : Table) (d p count : ℕ) (found : Option ℕ) → openBlock t d p ≡ found
+pub new-for : (t : Table) (d p count : ℕ) (found : Option ℕ) → openBlock t d p ≡ found
     → newBlocks t d p count ≡ blocksFor t (count - roomIn t found)
 unfolding newBlocks blocksFor
 new-for t d p count found e = rw e

@@ -1,6 +1,6 @@
 -- The user addresses of a write, cut in two: those that a block takes, and those that follow.
 use Prim.Native.Nat.{ℕ, _+_, _-_, _^_, _≤_, _<_, min}
-use mathlib.Core.Bool.{Bool, true, false, not, _&&_}
+use mathlib.Core.Bool.{true, false, not}
 use mathlib.Core.Path.{_≡_, sym, ap, _∙_}
 use native.Mathlib.Nat.{add-assoc}
 use native.Mathlib.Omega.{arith}
@@ -8,9 +8,9 @@ use lib.Dec.{eqb, leb}
 use lib.ListN.{drop, length, length-drop, length-take, take}
 use lib.Seq.{ext-getD, getD-drop, getD-take}
 use borrow.Author.Tests.{le-leb, leb-true, not-true}
-use Rattle.buffers.proofs.UserAddresses.{ones-address, plain-address}
+use Rattle.buffers.proofs.UserAddresses.{each-fits, fitsAt, ones-address, plain-address}
 use Rattle.geometry.proofs.Laws.Shape.{both, by-test}
-use Rattle.rules.proofs.Counting.{all-each, each-all, get-row, length-row}
+use Rattle.rules.proofs.Counting.{each-all, get-row, length-row}
 use Rattle.rules.specs.Blocks.{allOnes, lba, userAddress, userAddresses}
 use Rattle.rules.specs.Counting.{rowTo}
 use Rattle.rules.specs.Questions.{userAddressesFit}
@@ -35,14 +35,10 @@ row-behind f g n k same =
     ∙ sym (get-row g (n - k) i (omega (arith, l, long))))
 
 -- Where they fit and the start is not all ones, no LBA passes 2 ^ 40 − 1 and no address is all ones.
-abbrev fitsAt : ℕ → ℕ → Bool
-fitsAt start i = leb (lba start + i) (2 ^ 40 - 1) && not (eqb (userAddress start i) allOnes)
-
-each-fits : (start count i : ℕ) → eqb start allOnes ≡ false → userAddressesFit start count ≡ true → i < count
+each-plain : (start count i : ℕ) → eqb start allOnes ≡ false → userAddressesFit start count ≡ true → i < count
     → (lba start + i ≤ 2 ^ 40 - 1) × (eqb (start + i) allOnes ≡ false)
-unfolding userAddressesFit
-each-fits start count i e f l =
-    let h = both (leb (lba start + i) (2 ^ 40 - 1)) (not (eqb (userAddress start i) allOnes)) (all-each count (fitsAt start) (rw e at f) i l) in
+each-plain start count i e f l =
+    let h = both (leb (lba start + i) (2 ^ 40 - 1)) (not (eqb (userAddress start i) allOnes)) (each-fits start count i e f l) in
     let other = not-true (eqb (userAddress start i) allOnes) (h .1) in
     (leb-true (lba start + i) (2 ^ 40 - 1) (h .0), rw (plain-address start i e) at other)
 
@@ -56,14 +52,14 @@ later-address start count put i f l =
     ∙ ap (λ (u : ℕ). userAddress u i) (sym (ones-address start put e)))
     (λ e. plain-address start (put + i) e
     ∙ sym (add-assoc start put i)
-    ∙ sym (plain-address (start + put) i (each-fits start count put e f (omega (arith, l)) .1))
+    ∙ sym (plain-address (start + put) i (each-plain start count put e f (omega (arith, l)) .1))
     ∙ ap (λ (u : ℕ). userAddress u i) (sym (plain-address start put e)))
 
 -- .. and fit as those do.
 later-fits : (start count put i : ℕ) → eqb start allOnes ≡ false → userAddressesFit start count ≡ true → put + i < count
     → eqb (start + put) allOnes ≡ false → fitsAt (start + put) i ≡ true
 later-fits start count put i e f l q =
-    let h = each-fits start count (put + i) e f l in
+    let h = each-plain start count (put + i) e f l in
     let low : lba (start + put) + i ≤ 2 ^ 40 - 1 = omega (arith, h .0) in
     rw (plain-address (start + put) i q, add-assoc start put i, h .1, le-leb (lba (start + put) + i) (2 ^ 40 - 1) low)
 

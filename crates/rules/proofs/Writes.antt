@@ -291,7 +291,7 @@ module _ (c : Config) where
   by-option (some m) nothing something = something m refl
 
   -- Where no block is Free nothing is written.
-  none-written : (d p more : ℕ) (users : List ℕ) (v : Drive) → chosenBlock (v .table) ≡ none
+  pub none-written : (d p more : ℕ) (users : List ℕ) (v : Drive) → chosenBlock (v .table) ≡ none
       → writtenOnwards d p more users v ≡ record { drive = v; addresses = [] }
   unfolding writtenOnwards
   none-written d p zero users v e = refl

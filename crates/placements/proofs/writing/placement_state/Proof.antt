@@ -9,11 +9,12 @@ use Rattle.geometry.proofs.Laws.Questions.{positive}
 use Rattle.geometry.proofs.Laws.Shape.{is-between}
 use Rattle.geometry.specs.Questions.{ask, firstNo}
 use Rattle.geometry.specs.Shape.{withinLimits}
-use Rattle.placements.specs.Placing.{blocksFor}
+use Rattle.placements.proofs.Placed.{new-for}
+use Rattle.placements.specs.Placing.{blocksFor, found}
 use Rattle.tables.proofs.Answering.{chain, first-append, one-by-one}
 use Rattle.tables.specs.Verdicts.{newBlocksQuestions, thenNumber}
 use Rattle.rules.proofs.Soundness.{apart}
-use Rattle.rules.specs.Blocks.{newBlocks, roomIn}
+use Rattle.rules.specs.Blocks.{newBlocks}
 use Rattle.rules.specs.Drive.{openBlock}
 use Rattle.rules.specs.Questions.{mayOpenFor, questions, userAddressesFit}
 use Rattle.placements.proofs.writing.placement_state.Statement.{statement}
@@ -26,12 +27,12 @@ within c = apart (c .args .table) (sym (c .pre .0 .0 .tested) ∙ c .pre .0 .1) 
 -- The blocks for what the open block does not take are the new blocks of the rules.
 new : (c : tie.After-blocks-for) → let z = c .before .before .before .args in
     c .blocks-for .result ≡ newBlocks (z .table) (z .domain) (z .placement) (z .count .0)
-unfolding blocksFor newBlocks
 new c =
     let z = c .before .before .before in
-    let t = z .args .table in
-    let room = c .before .before .room-in .ensures ∙ ap (roomIn t) (z .pre .1 .1 .1) in
-    c .blocks-for .ensures .0 ∙ ap (blocksFor t) (c .before .without .ensures ∙ ap (λ (n : ℕ). z .args .count .0 - n) room)
+    let a = z .args in
+    c .blocks-for .ensures .0
+    ∙ ap (blocksFor (a .table)) (c .before .without .ensures ∙ ap (λ (n : ℕ). a .count .0 - n) (c .before .before .room-in .ensures))
+    ∙ sym (new-for (a .table) (a .domain) (a .placement) (a .count .0) (found (a .current)) (sym (z .pre .1 .1 .1)))
 
 room-in-requires : tie.Need-room-in-requires
 room-in-requires c κs = within c
