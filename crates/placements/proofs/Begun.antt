@@ -1,5 +1,5 @@
 -- A write that begins in one block: what the block takes, what it leaves, and what both come to.
-use Prim.Native.Nat.{ℕ, _+_, _-_, _≤_, _<_}
+use Prim.Native.Nat.{ℕ, _+_, _-_, _≤_, _<_, min}
 use mathlib.Core.Bool.{true}
 use mathlib.Core.List.{List, _++_, append-assoc, append-nil}
 use mathlib.Core.Path.{_≡_, refl, sym, ap, subst, _∙_}
@@ -7,8 +7,10 @@ use native.Mathlib.Omega.{arith}
 use lib.ListN.{drop, drop-of-length-le, length, length-append, length-drop, take}
 use lib.Seq.{drop-append-seam, drop-drop, take-all, take-append-seam}
 use Rattle.buffers.proofs.UserAddresses.{fit-fewer}
+use Rattle.model.specs.declared.table.Domain.{Domain}
+use Rattle.model.specs.declared.table.Table.{Table}
 use Rattle.placements.proofs.Users.{later-fit}
-use Rattle.placements.specs.Placing.{MayGoOn, blocksFor}
+use Rattle.placements.specs.Placing.{MayBegin, MayGoOn, blocksFor, writtenFrom}
 use Rattle.rules.proofs.Counting.{length-row}
 use Rattle.rules.proofs.Effects.{written-length}
 use Rattle.rules.proofs.Store.{length-overwritten}
@@ -39,10 +41,10 @@ words-two these those words =
     (append-assoc these those (drop (length these + length those) words))
 
 -- The words behind the first k, as they are lent on, and all of them with what those then hold.
-abbrev pub behind : ℕ → List ℕ → List ℕ
+abbrev behind : ℕ → List ℕ → List ℕ
 behind k row = take (length row - k) (drop k row)
 
-abbrev pub rejoined : ℕ → List ℕ → List ℕ → List ℕ
+abbrev rejoined : ℕ → List ℕ → List ℕ → List ℕ
 rejoined k row part = take k row ++ (part ++ drop (length row - k) (drop k row))
 
 behind-all : (k : ℕ) (row : List ℕ) → behind k row ≡ drop k row
@@ -84,7 +86,7 @@ wrote-then first rest words filled k r part e long w =
 -- ---- The drive
 
 -- Writing leaves the configuration, the domains and a store as long as it was.
-pub record Filled (d : ℕ) (v u : Drive) : Type 0 where
+record Filled (d : ℕ) (v u : Drive) : Type 0 where
   pub config : u .table .config ≡ v .table .config
   pub domain : domainAt (u .table) d ≡ domainAt (v .table) d
   pub store : length (u .store) ≡ length (v .store)
@@ -99,71 +101,86 @@ filled-so d n users v may = record {
       (omega (arith, inside (v .table .config) n (may .inside), may .entries, may .fits));
 }
 
+-- The configuration alone decides how many blocks so many ADUs fill or begin.
+pub blocks-same : (t u : Table) (count : ℕ) → t .config ≡ u .config → blocksFor t count ≡ blocksFor u count
+unfolding blocksFor
+blocks-same t u count e = rw e
+
 -- ---- The first block and the rest
 
 -- So many user addresses from a start on, into a block, ..
-abbrev pub beginning : ℕ → ℕ → ℕ → ℕ → Drive → Written
+abbrev beginning : ℕ → ℕ → ℕ → ℕ → Drive → Written
 beginning d n start put v = writtenInto d n (userAddresses start put) v
 
 -- .. or onwards.
 abbrev pub onwards : ℕ → ℕ → ℕ → ℕ → Drive → Written
 onwards d p start count v = writtenOnwards d p (blocksFor (v .table) count) (userAddresses start count) v
 
-pub begun-filled : (d n start put : ℕ) (v : Drive) → MayWrite v d n put → Filled d v (beginning d n start put v .drive)
-begun-filled d n start put v may =
-    filled-so d n (userAddresses start put) v (subst (MayWrite v d n) (sym (length-row (userAddress start) put)) may)
-
--- Block n takes so many, and the rest goes on; together they are the whole write.
-pub record Begun (d p n start count put : ℕ) (v : Drive) (words : List ℕ) (whole : Written) : Type 0 where
+-- Block n takes of the user addresses what fits its room, and the rest goes on.
+pub record Begun (d n room start count : ℕ) (v : Drive) (words : List ℕ) : Type 0 where
+  pub may : MayBegin v d n room count
   pub fit : userAddressesFit start count ≡ true
   pub long : count ≤ length words
-  pub few : put ≤ count
-  pub may-write : MayWrite v d n put
-  pub may-go-on : MayGoOn (beginning d n start put v .drive) d (count - put)
-  pub both : whole
-      ≡ andThen (beginning d n start put v) (onwards d p (userAddress start put) (count - put) (beginning d n start put v .drive))
 
-module _ {d p n start count put : ℕ} {v : Drive} {words : List ℕ} {whole : Written} (b : Begun d p n start count put v words whole) where
+module _ {d n room start count : ℕ} {v : Drive} {words : List ℕ} (b : Begun d n room start count v words) where
+  abbrev put : ℕ
+  put = min count room
+
+  -- Writing into the block leaves what the rest needs.
   abbrev first : Written
   first = beginning d n start put v
 
-  abbrev rest : Written
-  rest = onwards d p (userAddress start put) (count - put) (first .drive)
+  filled-first : Filled d v (first .drive)
+  filled-first =
+      filled-so d n (userAddresses start put) v (subst (MayWrite v d n) (sym (length-row (userAddress start) put)) (b .may .first))
+
+  same-blocks : blocksFor (first .drive .table) (count - put) ≡ blocksFor (v .table) (count - put)
+  same-blocks = blocks-same (first .drive .table) (v .table) (count - put) (filled-first .config)
+
+  rest-goes-on : MayGoOn (first .drive) d (count - put)
+  rest-goes-on = record {
+    limits = rw (filled-first .config) (b .may .rest .limits);
+    id = b .may .rest .id;
+    entries = rw (filled-first .store, filled-first .config) (b .may .rest .entries);
+    serials = omega (arith, b .may .rest .serials, same-blocks, ap (λ (r : Domain). r .last) (filled-first .domain));
+  }
 
   -- What is asked of the block, ..
-  pub asks-block : (u : Drive) (k : ℕ) → u ≡ v → k ≡ put → MayWrite u d n k × ((userAddressesFit start k ≡ true) × (k ≤ length words))
-  asks-block u k same puts =
-      rw (same, puts) (b .may-write, (fit-fewer start put count (b .few) (b .fit), omega (arith, b .few, b .long)))
+  pub asks-block : (k : ℕ) → k ≡ put → MayWrite v d n k × ((userAddressesFit start k ≡ true) × (k ≤ length words))
+  asks-block k puts = rw puts (b .may .first, (fit-fewer start put count (omega arith) (b .fit), omega (arith, b .long)))
 
   -- .. what is asked of the rest once it is written, ..
-  module _ (u w : Drive) (filled : List ℕ) (k more next : ℕ) (same : u ≡ v) (puts : k ≡ put)
-      (wrote : Wrote (beginning d n start k u) words w filled) (left : more ≡ count - k) (then : next ≡ userAddress start k) where
+  module _ (w : Drive) (filled : List ℕ) (k more next : ℕ) (puts : k ≡ put) (wrote : Wrote (beginning d n start k v) words w filled)
+      (left : more ≡ count - k) (then : next ≡ userAddress start k) where
     first-leaves : w ≡ first .drive
-    first-leaves = wrote .leaves ∙ rw (same, puts)
+    first-leaves = wrote .leaves ∙ rw puts
 
     first-fills : filled ≡ overwritten 0 (first .addresses) words
-    first-fills = wrote .fills ∙ rw (same, puts)
+    first-fills = wrote .fills ∙ rw puts
 
     first-length : length (first .addresses) ≡ k
     first-length = written-length d n (userAddresses start put) v ∙ length-row (userAddress start) put ∙ sym puts
 
     pub asks-rest : (more < count) × (MayGoOn w d more × ((userAddressesFit next more ≡ true) × (more ≤ length (behind k filled))))
     asks-rest = (
-      omega (arith, left, puts, b .few, b .may-write .some-written),
+      omega (arith, left, puts, b .may .first .some-written),
       (
-        rw (first-leaves, left, puts) (b .may-go-on),
+        rw (first-leaves, left, puts) rest-goes-on,
         (
           rw (then, left) (later-fit start count k (b .fit)),
-          rw left (enough-words (first .addresses) words filled count k first-fills first-length (omega (arith, puts, b .few)) (b .long)),
+          rw left (enough-words (first .addresses) words filled count k first-fills first-length (omega (arith, puts)) (b .long)),
         ),
       ),
     )
 
     -- .. and what both leave.
-    pub wrote-both : (r : Drive) (part : List ℕ) → Wrote (onwards d p next more w) (behind k filled) r part
-        → Wrote whole words r (rejoined k filled part)
-    wrote-both r part h =
-        let is-rest : onwards d p next more w ≡ rest = rw (first-leaves, then, left, puts) in
-        subst (λ (x : Written). Wrote x words r (rejoined k filled part)) (sym (b .both))
-        (wrote-then first rest words filled k r part first-fills first-length
-        (subst (λ (x : Written). Wrote x (behind k filled) r part) is-rest h))
+    pub wrote-both : (p : ℕ) (r : Drive) (part : List ℕ) → Wrote (onwards d p next more w) (behind k filled) r part
+        → Wrote (writtenFrom d p n room start count v) words r (rejoined k filled part)
+    unfolding writtenFrom
+    wrote-both p r part h =
+        let next-users = userAddresses (userAddress start put) (count - put) in
+        let rest = writtenOnwards d p (blocksFor (v .table) (count - put)) next-users (first .drive) in
+        let is-rest : onwards d p next more w ≡ rest =
+        rw (first-leaves, then, left, puts) (ap (λ (blocks : ℕ). writtenOnwards d p blocks next-users (first .drive)) same-blocks) in
+        wrote-then first rest words filled k r part first-fills first-length
+        (subst (λ (x : Written). Wrote x (behind k filled) r part) is-rest h)

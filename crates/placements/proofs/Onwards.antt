@@ -19,9 +19,9 @@ use Rattle.model.specs.declared.block.Way.{Way}
 use Rattle.model.specs.declared.block.Way.the-variants.{Placement}
 use Rattle.model.specs.declared.table.Domain.{Domain}
 use Rattle.model.specs.declared.table.Table.{Table}
-use Rattle.placements.proofs.Begun.{Begun, Filled, andThen, beginning, begun-filled, onwards}
+use Rattle.placements.proofs.Begun.{andThen, blocks-same, onwards}
 use Rattle.placements.proofs.Users.{users-left, users-taken}
-use Rattle.placements.specs.Placing.{MayGoOn, blocksFor}
+use Rattle.placements.specs.Placing.{MayBegin, MayGoOn, blocksFor, writtenFrom}
 use Rattle.rules.proofs.Blocks.{Choice, choice}
 use Rattle.rules.proofs.Drive.{overwritten-nothing}
 use Rattle.rules.proofs.Store.{length-overwritten}
@@ -57,11 +57,6 @@ blocks-more : (t : Table) (count : ℕ) → 0 < adusPerBlock (t .config) .0 → 
     → blocksFor t count ≡ suc (blocksFor t (count - min count (adusPerBlock (t .config) .0)))
 unfolding blocksFor
 blocks-more t count l k = one-more (adusPerBlock (t .config) .0) count l k
-
--- The configuration alone decides.
-pub blocks-same : (t u : Table) (count : ℕ) → t .config ≡ u .config → blocksFor t count ≡ blocksFor u count
-unfolding blocksFor
-blocks-same t u count e = rw e
 
 -- ---- Nothing is written
 
@@ -117,10 +112,9 @@ opened-so d n way v l whole = record {
 -- ---- One block
 
 -- A block is chosen for user addresses that are left.
-pub record Next (d p n start count : ℕ) (v : Drive) (words : List ℕ) : Type 0 where
+pub record Next (d p n start count : ℕ) (v : Drive) : Type 0 where
   pub may : MayGoOn v d count
   pub fit : userAddressesFit start count ≡ true
-  pub long : count ≤ length words
   pub left : 1 ≤ count
   pub chosen : chosenBlock (v .table) ≡ some n
 
@@ -132,7 +126,7 @@ onwards-more : (d p more n : ℕ) (users : List ℕ) (v : Drive) → chosenBlock
 unfolding writtenOnwards
 onwards-more d p more n users v e = rw e
 
-module _ {d p n start count : ℕ} {v : Drive} {words : List ℕ} (o : Next d p n start count v words) where
+module _ {d p n start count : ℕ} {v : Drive} (o : Next d p n start count v) where
   abbrev perBlock : ℕ
   perBlock = adusPerBlock (v .table .config) .0
 
@@ -173,35 +167,34 @@ module _ {d p n start count : ℕ} {v : Drive} {words : List ℕ} (o : Next d p 
   }
 
   -- .. and the rest goes on.
-  abbrev first : Written
-  first = beginning d n start put fresh
+  same-blocks : blocksFor (fresh .table) (count - put) ≡ blocksFor (v .table) (count - put)
+  same-blocks = blocks-same (fresh .table) (v .table) (count - put) (opened-fresh .config)
 
-  filled-first : Filled d fresh (first .drive)
-  filled-first = begun-filled d n start put fresh fresh-takes
-
-  first-config : first .drive .table .config ≡ v .table .config
-  first-config = filled-first .config ∙ opened-fresh .config
-
-  rest-goes-on : MayGoOn (first .drive) d (count - put)
+  rest-goes-on : MayGoOn fresh d (count - put)
   rest-goes-on = record {
-    limits = rw first-config (o .may .limits);
+    limits = fresh-takes .limits;
     id = o .may .id;
-    entries = rw (filled-first .store, opened-fresh .store, first-config) (o .may .entries);
+    entries = fresh-takes .entries;
     serials =
         omega (
           arith,
           o .may .serials,
           blocks-more (v .table) count some-adus (o .left),
-          blocks-same (first .drive .table) (v .table) (count - put) first-config,
-          ap (λ (r : Domain). r .last) (filled-first .domain),
+          same-blocks,
           opened-fresh .last,
         );
   }
 
+  -- So the write begins in it, ..
+  pub begins-next : (u : Drive) (room : ℕ) → u ≡ fresh → room ≡ perBlock → MayBegin u d n room count
+  begins-next u room same all = rw (same, all) record { first = fresh-takes; rest = rest-goes-on }
+
+  -- .. and this is the whole write.
   abbrev inTwo : List ℕ → List ℕ → ℕ → Written
   inTwo these those more = let written = writtenInto d n these fresh in andThen written (writtenOnwards d p more those (written .drive))
 
-  are-both : onwards d p start count v ≡ andThen first (onwards d p (userAddress start put) (count - put) (first .drive))
+  are-both : onwards d p start count v ≡ writtenFrom d p n perBlock start count fresh
+  unfolding writtenFrom
   are-both =
       let users = userAddresses start count in
       let more = blocksFor (v .table) (count - put) in
@@ -209,15 +202,10 @@ module _ {d p n start count : ℕ} {v : Drive} {words : List ℕ} (o : Next d p 
       ∙ onwards-more d p more n users v (o .chosen)
       ∙ ap (λ (these : List ℕ). inTwo these (drop perBlock users) more) (users-taken start count perBlock)
       ∙ ap (λ (those : List ℕ). inTwo (userAddresses start put) those more) (users-left start count perBlock (o .fit))
-      ∙ ap (λ (k : ℕ). inTwo (userAddresses start put) (userAddresses (userAddress start put) (count - put)) k)
-      (sym (blocks-same (first .drive .table) (v .table) (count - put) first-config))
+      ∙ ap (λ (k : ℕ). inTwo (userAddresses start put) (userAddresses (userAddress start put) (count - put)) k) (sym same-blocks)
 
-  pub begun-next : Begun d p n start count put fresh words (onwards d p start count v)
-  begun-next = record {
-    fit = o .fit;
-    long = o .long;
-    few = omega arith;
-    may-write = fresh-takes;
-    may-go-on = rest-goes-on;
-    both = are-both;
-  }
+  pub wrote-next : (u : Drive) (room : ℕ) → u ≡ fresh → room ≡ perBlock → (words : List ℕ) (r : Drive) (filled : List ℕ)
+      → Wrote (writtenFrom d p n room start count u) words r filled → Wrote (onwards d p start count v) words r filled
+  wrote-next u room same all words r filled h =
+      let is : writtenFrom d p n room start count u ≡ writtenFrom d p n perBlock start count fresh = rw (same, all) in
+      subst (λ (x : Written). Wrote x words r filled) (is ∙ sym are-both) h

@@ -14,12 +14,10 @@ use Rattle.geometry.specs.Shape.{adusPerBlock, between}
 use Rattle.model.specs.declared.block.Block.{Block}
 use Rattle.model.specs.declared.block.State.{State}
 use Rattle.model.specs.declared.block.State.the-variants.{Closed, Free, Open}
-use Rattle.model.specs.declared.table.Domain.{Domain}
 use Rattle.model.specs.declared.table.Table.{Table}
-use Rattle.placements.proofs.Begun.{Begun, Filled, andThen, beginning, begun-filled, onwards}
-use Rattle.placements.proofs.Onwards.{blocks-same}
+use Rattle.placements.proofs.Begun.{andThen, onwards}
 use Rattle.placements.proofs.Users.{users-left, users-taken}
-use Rattle.placements.specs.Placing.{MayGoOn, MayPlace, blocksFor}
+use Rattle.placements.specs.Placing.{MayBegin, MayGoOn, MayPlace, blocksFor, writtenFrom}
 use Rattle.rules.proofs.Counting.{all-each, length-row}
 use Rattle.rules.proofs.Kept.Onwards.{OpenTo, open-to}
 use Rattle.rules.proofs.Soundness.{apart}
@@ -27,7 +25,7 @@ use Rattle.rules.specs.Blocks.{Written, newBlocks, roomIn, userAddress, userAdd
 use Rattle.rules.specs.Drive.{Drive, blockAt, capacity, isPlacedState, domainAt, openBlock, size}
 use Rattle.rules.specs.Questions.{userAddressesFit}
 use Rattle.rules.specs.Soundness.{countsKept}
-use Rattle.transfers.specs.Transfers.{MayWrite}
+use Rattle.transfers.specs.Transfers.{MayWrite, Wrote}
 
 -- The blocks that are opened are those that what the open block does not take fills or begins.
 pub new-for : (t : Table) (d p count : ℕ) (found : Option ℕ) → openBlock t d p ≡ found
@@ -77,13 +75,12 @@ open-room c period p (Open way) b e k = ltb-true (b .written .0) c (both (ltb (b
 open-room c period p (Closed way) b e k = absurd (true≢false (sym e))
 
 -- The placement has block n open for user addresses.
-pub record Into (d p n start count : ℕ) (v : Drive) (words : List ℕ) : Type 0 where
+pub record Into (d p n start count : ℕ) (v : Drive) : Type 0 where
   pub may : MayPlace v d p count
   pub fit : userAddressesFit start count ≡ true
-  pub long : count ≤ length words
   pub found : openBlock (v .table) d p ≡ some n
 
-module _ {d p n start count : ℕ} {v : Drive} {words : List ℕ} (o : Into d p n start count v words) where
+module _ {d p n start count : ℕ} {v : Drive} (o : Into d p n start count v) where
   -- What the block still takes, and what it is given.
   abbrev left : ℕ
   left = roomIn (v .table) (some n)
@@ -113,33 +110,26 @@ module _ {d p n start count : ℕ} {v : Drive} {words : List ℕ} (o : Into d p 
   }
 
   -- .. and the rest goes on.
-  abbrev first : Written
-  first = beginning d n start put v
-
-  filled-first : Filled d v (first .drive)
-  filled-first = begun-filled d n start put v takes
-
   same-left : count - left ≡ count - put
   same-left = omega arith
 
-  rest-goes-on : MayGoOn (first .drive) d (count - put)
+  rest-goes-on : MayGoOn v d (count - put)
   rest-goes-on = record {
-    limits = rw (filled-first .config) (takes .limits);
+    limits = takes .limits;
     id = o .may .id;
-    entries = rw (filled-first .store, filled-first .config) (o .may .entries);
+    entries = o .may .entries;
     serials =
-        omega (
-          arith,
-          o .may .serials,
-          new-for (v .table) d p count (some n) (o .found),
-          ap (blocksFor (v .table)) same-left,
-          blocks-same (first .drive .table) (v .table) (count - put) (filled-first .config),
-          ap (λ (r : Domain). r .last) (filled-first .domain),
-        );
+        subst (λ (new : ℕ). domainAt (v .table) d .last + new ≤ 4294967295)
+        (new-for (v .table) d p count (some n) (o .found) ∙ ap (blocksFor (v .table)) same-left) (o .may .serials);
   }
 
-  are-both : writtenByPlacement d p (userAddresses start count) v
-      ≡ andThen first (onwards d p (userAddress start put) (count - put) (first .drive))
+  -- So the write begins in it, ..
+  pub begins-into : (room : ℕ) → room ≡ left → MayBegin v d n room count
+  begins-into room all = rw all record { first = takes; rest = rest-goes-on }
+
+  -- .. and this is the whole write.
+  are-both : writtenByPlacement d p (userAddresses start count) v ≡ writtenFrom d p n left start count v
+  unfolding writtenFrom
   are-both =
       let users = userAddresses start count in
       let these = userAddresses start put in
@@ -147,17 +137,12 @@ module _ {d p n start count : ℕ} {v : Drive} {words : List ℕ} (o : Into d p 
       placed-is d p users v (some n) (o .found)
       ∙ ap (λ (us : List ℕ). inTwo d p v (some n) us (drop left users) (blocksFor (v .table) (length users - left))) (users-taken start count left)
       ∙ ap (λ (us : List ℕ). inTwo d p v (some n) these us (blocksFor (v .table) (length users - left))) (users-left start count left (o .fit))
-      ∙ ap (λ (k : ℕ). inTwo d p v (some n) these those k)
-      (ap (λ (k : ℕ). blocksFor (v .table) (k - left)) (length-row (userAddress start) count)
-      ∙ ap (blocksFor (v .table)) same-left
-      ∙ sym (blocks-same (first .drive .table) (v .table) (count - put) (filled-first .config)))
+      ∙ ap (λ (k : ℕ). inTwo d p v (some n) these those (blocksFor (v .table) k))
+      (ap (λ (k : ℕ). k - left) (length-row (userAddress start) count) ∙ same-left)
 
-  pub begun-into : Begun d p n start count put v words (writtenByPlacement d p (userAddresses start count) v)
-  begun-into = record {
-    fit = o .fit;
-    long = o .long;
-    few = omega arith;
-    may-write = takes;
-    may-go-on = rest-goes-on;
-    both = are-both;
-  }
+  pub wrote-into : (room : ℕ) → room ≡ left → (words : List ℕ) (r : Drive) (filled : List ℕ)
+      → Wrote (writtenFrom d p n room start count v) words r filled
+      → Wrote (writtenByPlacement d p (userAddresses start count) v) words r filled
+  wrote-into room all words r filled h =
+      let is : writtenFrom d p n room start count v ≡ writtenFrom d p n left start count v = rw all in
+      subst (λ (x : Written). Wrote x words r filled) (is ∙ sym are-both) h

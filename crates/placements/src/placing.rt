@@ -15,7 +15,7 @@ ghost use mathlib.Core.Bool.{true};
 ghost use mathlib.Core.Path.{_≡_};
 ghost use Prim.Native.Nat.{_≤_, min};
 ghost use lib.ListN.{length};
-ghost use Rattle.placements.specs.Placing.{MayGoOn, MayPlace, blocksFor, found};
+ghost use Rattle.placements.specs.Placing.{MayBegin, MayGoOn, MayPlace, blocksFor, found, writtenFrom};
 ghost use Rattle.rules.specs.Blocks.{userAddresses, writtenByPlacement, writtenOnwards};
 ghost use Rattle.rules.specs.Drive.{openBlock};
 ghost use Rattle.rules.specs.Questions.{userAddressesFit};
@@ -26,6 +26,39 @@ fn smaller(a: Adus, b: Adus) -> Adus
     ensures { λ r. ⌜ r .0 ≡ min (a .0) (b .0) ⌝ }
 {
     if a.0 < b.0 { a } else { b }
+}
+
+// Into a block what fits its room, and the rest onwards.
+fn written_from(
+    table: Table,
+    domain: u64,
+    placement: u8,
+    block: u64,
+    room: Adus,
+    start: u64,
+    count: Adus,
+    store: &mut [u64],
+    words: &mut [u64],
+) -> Table
+    requires { ⌜ MayBegin (drive table (now store)) domain block (room .0) (count .0) ⌝ }
+    requires { ⌜ userAddressesFit start (count .0) ≡ true ⌝ }
+    requires { ⌜ count .0 ≤ length (now words) ⌝ }
+    ensures { λ r. ⌜ Wrote (writtenFrom domain placement block (room .0) start (count .0) (drive table (now (store .entry)))) (now (words .entry)) (drive r (now (store .exit))) (now (words .exit)) ⌝ }
+{
+    let put = smaller(count, room);
+    let written = written_into(table, domain, block, start, put, store, words);
+    let rest = without(count, put);
+    let next = user_address(start, put.0);
+    let done = put.0 as usize;
+    written_onwards(
+        written,
+        domain,
+        placement,
+        next,
+        rest,
+        store,
+        &mut words[done..],
+    )
 }
 
 // Into blocks that are opened for the placement, each chosen as for Erase, while ADUs remain.
@@ -51,19 +84,17 @@ fn written_onwards(
         Choice::Block(n, _) => {
             let way = Way::Placement(placement);
             let opened = opened_for(table, domain, way, n, store);
-            let put = smaller(count, adus_per_block(table.config));
-            let written = written_into(opened, domain, n, start, put, store, words);
-            let rest = without(count, put);
-            let next = user_address(start, put.0);
-            let done = put.0 as usize;
-            written_onwards(
-                written,
+            let capacity = adus_per_block(table.config);
+            written_from(
+                opened,
                 domain,
                 placement,
-                next,
-                rest,
+                n,
+                capacity,
+                start,
+                count,
                 store,
-                &mut words[done..],
+                words,
             )
         }
     }
@@ -89,19 +120,17 @@ pub(crate) fn written_by_placement(
     match current {
         Found::Nothing => written_onwards(table, domain, placement, start, count, store, words),
         Found::Block(n) => {
-            let put = smaller(count, room_in(table, current));
-            let written = written_into(table, domain, n, start, put, store, words);
-            let rest = without(count, put);
-            let next = user_address(start, put.0);
-            let done = put.0 as usize;
-            written_onwards(
-                written,
+            let room = room_in(table, current);
+            written_from(
+                table,
                 domain,
                 placement,
-                next,
-                rest,
+                n,
+                room,
+                start,
+                count,
                 store,
-                &mut words[done..],
+                words,
             )
         }
     }
