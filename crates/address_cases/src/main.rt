@@ -1,19 +1,9 @@
-// Runs the drive's shape and its flash addresses on cases, each with its expectation written out, and
-// prints a line for each. A line that begins 'WRONG' is a case that fails.
-mod addresses;
+// Runs the drive's shape and its flash addresses on the cases of a script, each with its expectation
+// written out, and prints a line for each. A line that begins 'WRONG' is a case that fails.
 mod calls;
-mod report;
-mod shapes;
+mod script;
+mod tokens;
 
 fn main() {
-    shapes::limits();
-    shapes::sizes();
-    shapes::rounding();
-    shapes::stretches();
-    addresses::words();
-    addresses::not_words();
-    addresses::parts();
-    addresses::not_parts();
-    addresses::damaged();
-    addresses::by_value();
+    script::run();
 }

@@ -17,14 +17,8 @@ slice-aggregate-sbm-create-flash-address c = sym (length-take-le (c .before .at-
 sbm-create-flash-address-requires : tie.Need-sbm-create-flash-address-requires
 sbm-create-flash-address-requires c κs = search needs
 
-number-at-requires : tie.Need-number-at-requires
-number-at-requires c κs = search needs
-
 filled-requires : tie.Need-filled-requires
 filled-requires c κs = search needs
-
-kept-from-requires : tie.Need-kept-from-requires
-kept-from-requires c κs = search needs
 
 returns : tie.Need-returns
 returns c = search needs
@@ -37,7 +31,5 @@ host-made-spec =
     array-borrow-prefix-bytes
     slice-aggregate-sbm-create-flash-address
     sbm-create-flash-address-requires
-    number-at-requires
     filled-requires
-    kept-from-requires
     returns)

@@ -17,14 +17,8 @@ slice-aggregate-sbm-parse-flash-address c = sym (length-take-le (c .before .at-m
 sbm-parse-flash-address-requires : tie.Need-sbm-parse-flash-address-requires
 sbm-parse-flash-address-requires c κs = search needs
 
-seven-at-start-requires : tie.Need-seven-at-start-requires
-seven-at-start-requires c κs = search needs
-
 filled-requires : tie.Need-filled-requires
 filled-requires c κs = search needs
-
-kept-from-requires : tie.Need-kept-from-requires
-kept-from-requires c κs = search needs
 
 returns : tie.Need-returns
 returns c = search needs
@@ -37,7 +31,5 @@ host-taken-spec =
     array-borrow-prefix-bytes
     slice-aggregate-sbm-parse-flash-address
     sbm-parse-flash-address-requires
-    seven-at-start-requires
     filled-requires
-    kept-from-requires
     returns)
