@@ -1,0 +1,6 @@
+-- Laws that the functions' proofs share, what the definitions mean, and lines that they compute.
+mod Pieces
+mod Printing
+mod Digits
+pub mod Laws
+mod Examples

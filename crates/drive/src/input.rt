@@ -1,0 +1,175 @@
+// Standard input, line by line. A line may begin in one part that is read and end in a later one; the
+// last may lack its newline.
+use crate::console::Console;
+use crate::console::answer;
+use crate::console::no_drive;
+use crate::errors::tell_too_long;
+use libc::STDIN_FILENO;
+ghost use mathlib.Core.Path.{_≡_};
+ghost use Prim.Native.Nat.{_≤_};
+ghost use lib.ListN.{length};
+ghost use Rattle.io.specs.Counts.{Counts};
+
+// The most bytes of a line.
+const LINE: usize = 4096;
+
+// Where the line that begins here ends.
+fn line_end(text: &[u8], from: usize) -> usize
+    requires { ⌜ from ≤ length (now text) ⌝ }
+    ensures { λ r. ⌜ (from ≤ r) × (r ≤ length (now (text .entry))) ⌝ }
+{
+    let mut at = from;
+    while at < text.len() {
+        if text[at] == b'\n' {
+            return at;
+        }
+        at += 1;
+    }
+    at
+}
+
+// A part of a line behind what is there of it, and how long it then is: more than LINE where that is
+// too long.
+fn gather(line: &mut [u8], filled: usize, part: &[u8]) -> usize {
+    if line.len() < filled {
+        return filled;
+    }
+    let room = line.len() - filled;
+    if room < part.len() {
+        return LINE + 1;
+    }
+    for i in 0..part.len() {
+        line[filled + i] = part[i];
+    }
+    filled + part.len()
+}
+
+// The line that was gathered is answered, and the next one begins.
+fn ended(
+    console: Console,
+    line: &[u8],
+    store: &mut [u64],
+    words: &mut [u64],
+    bytes: &mut [u8],
+    out: &mut [u8],
+) -> Console {
+    let mut next = console;
+    let length = next.length;
+    next.number = std::num::wrapping_add_u64(next.number, 1);
+    next.length = 0;
+    if line.len() < length {
+        tell_too_long(next.number, LINE as u64);
+        return next;
+    }
+    answer(next, &line[..length], store, words, bytes, out)
+}
+
+// The lines that end in a part of the input.
+fn lines(
+    console: Console,
+    text: &[u8],
+    line: &mut [u8],
+    store: &mut [u64],
+    words: &mut [u64],
+    bytes: &mut [u8],
+    out: &mut [u8],
+) -> Console
+    requires { ⌜ length (now text) ≤ 65536 ⌝ }
+{
+    let mut current = console;
+    let mut at = 0;
+    while at < text.len() {
+        let end = line_end(text, at);
+        let before = current.length;
+        current.length = gather(line, before, &text[at..end]);
+        if end == text.len() {
+            return current;
+        }
+        current = ended(current, line, store, words, bytes, out);
+        at = end + 1;
+    }
+    current
+}
+
+// A last line that lacks its newline.
+fn last_line(
+    console: Console,
+    line: &[u8],
+    store: &mut [u64],
+    words: &mut [u64],
+    bytes: &mut [u8],
+    out: &mut [u8],
+) {
+    if 0 < console.length {
+        ended(console, line, store, words, bytes, out);
+    }
+}
+
+// A part of the input: how many bytes of the buffer it takes, and none where the input ends.
+fn read_some(text: &mut [u8]) -> usize
+    ensures { λ r. ⌜ Counts r (now (text .exit)) ⌝ }
+{
+    let got = libc::read(STDIN_FILENO, text);
+    io::count(got, text)
+}
+
+// Reads to the end of the input.
+fn read_all(
+    text: &mut [u8],
+    line: &mut [u8],
+    store: &mut [u64],
+    words: &mut [u64],
+    bytes: &mut [u8],
+    out: &mut [u8],
+)
+    requires { ⌜ length (now text) ≤ 65536 ⌝ }
+{
+    let mut console = no_drive();
+    let mut turns: u64 = 0xffff_ffff_ffff_ffff;
+    while 0 < turns {
+        let n = read_some(text);
+        if n == 0 {
+            last_line(console, line, store, words, bytes, out);
+            return;
+        }
+        console = lines(console, &text[..n], line, store, words, bytes, out);
+        turns -= 1;
+    }
+}
+
+// Memory for the store, whose length alone is of use.
+fn store_memory() -> [u64; 262144]
+    ensures { λ r. ⌜ 262144 ≡ length r ⌝ }
+{
+    [0; 262144]
+}
+
+fn word_memory() -> [u64; 4096]
+    ensures { λ r. ⌜ 4096 ≡ length r ⌝ }
+{
+    [0; 4096]
+}
+
+// Room for the longest line that is printed: 4,096 words.
+fn line_memory() -> [u8; 73728]
+    ensures { λ r. ⌜ 73728 ≡ length r ⌝ }
+{
+    [0; 73728]
+}
+
+pub fn run() {
+    let mut text = io::large_buffer();
+    let mut line = io::buffer();
+    let mut store = store_memory();
+    let mut words = word_memory();
+    let mut bytes = io::buffer();
+    let mut out = line_memory();
+    read_all(
+        &mut text,
+        &mut line,
+        &mut store,
+        &mut words,
+        &mut bytes,
+        &mut out,
+    );
+}
