@@ -2,5 +2,6 @@
 mod Pieces
 mod Printing
 mod Digits
+mod ReadBack
 pub mod Laws
 mod Examples

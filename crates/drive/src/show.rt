@@ -33,27 +33,34 @@ fn say_column(n: u64, width: u64) {
 }
 
 fn show_shape(config: Config) {
-    say(b"shape   ");
+    say(b"shape   pages ");
     say_number(config.pages);
-    say(b" pages, ");
+    say(b", dies ");
     say_number(config.dies);
-    say(b" dies, ");
+    say(b", planes per die ");
     say_number(config.planes);
-    say(b" planes a die, ");
+    say(b", ADUs per plane ");
     say_number(config.adus);
-    say(b" ADUs a plane\nblock   ");
+    say(b"\nblock   planes ");
     let w = planes_per_block(config);
     say_number(w.0);
-    say(b" planes, ");
+    say(b", ADUs ");
     let c = adus_per_block(config);
     say_number(c.0);
-    say(b" ADUs\ndrive   ");
+    say(b"\ndrive   super blocks ");
     say_number(config.blocks);
-    say(b" super blocks, rated for ");
+    say(b", rated erases ");
     say_number(config.rated);
-    say(b" erases, open for ");
+    say(b", open period ");
     say_number(config.period);
-    say(b" seconds\n");
+    say(b" s\n");
+}
+
+// Coverage may be as much as the drive has blocks.
+fn show_header(config: Config) {
+    say(b"\ndomain  reserved  quota  held  open  coverage of ");
+    say_number(config.blocks);
+    say(b"\n");
 }
 
 fn larger(a: u64, b: u64) -> u64 {
@@ -81,7 +88,6 @@ fn show_domain(table: Table, tally: Tally, domain: u64, coverage: u64) -> u64 {
 }
 
 fn show_domains(table: Table) {
-    say(b"\ndomain  reserved  quota  held  open  coverage\n");
     let survey = surveyed(table);
     let tally = survey.tally;
     let mut sum = 0;
@@ -175,6 +181,7 @@ pub fn show(table: Table) {
         return;
     }
     show_shape(config);
+    show_header(config);
     show_domains(table);
     show_map(table);
 }

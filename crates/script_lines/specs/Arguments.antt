@@ -1,5 +1,5 @@
 -- The arguments of a line, one after the other.
-use Prim.Native.Nat.{ℕ, zero, suc, _+_}
+use Prim.Native.Nat.{ℕ, _+_}
 use mathlib.Core.Bool.{cond}
 use mathlib.Core.List.{List, [], _∷_}
 use lib.Dec.{ltb}
@@ -8,7 +8,6 @@ use Rattle.script_lines.specs.Keywords.{form}
 use Rattle.script_lines.specs.Numbers.{numberOf}
 use Rattle.script_lines.specs.Words.{ascii, first, part, sameText}
 use Rattle.script_lines.specs.declared.arguments.Arguments.{Arguments}
-use Rattle.script_lines.specs.declared.arguments.Fault.{Fault}
 use Rattle.script_lines.specs.declared.arguments.Fault.the-variants.{Expects, Nowhere}
 use Rattle.script_lines.specs.declared.keywords.Expected.{Expected}
 use Rattle.script_lines.specs.declared.keywords.Expected.the-variants.{Block, Buffer, Keyword as AKeyword, Length, LineEnd, Listed, Number, Way}

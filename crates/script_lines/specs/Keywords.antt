@@ -11,26 +11,42 @@ use Rattle.script_lines.specs.declared.keywords.Keyword.{Keyword}
 use Rattle.script_lines.specs.declared.keywords.Keyword.the-variants.{Change, Close, Create, Delete, Erase, Free, Lend, List as Listing}
 use Rattle.script_lines.specs.declared.keywords.Keyword.the-variants.{Make, Page, Pulse, Read, Show, Start, Take, Write}
 
+-- A keyword and its name.
+pub record Entry : Type 0 where
+  pub name : List ℕ
+  pub keyword : Keyword
+
+abbrev pub entry : List ℕ → Keyword → Entry
+entry name keyword = record { name = name; keyword = keyword }
+
+abbrev pub entries : List Entry
+entries =
+    entry (ascii "start") Start
+    ∷ entry (ascii "create") Create
+    ∷ entry (ascii "change") Change
+    ∷ entry (ascii "delete") Delete
+    ∷ entry (ascii "erase") Erase
+    ∷ entry (ascii "close") Close
+    ∷ entry (ascii "free") Free
+    ∷ entry (ascii "write") Write
+    ∷ entry (ascii "read") Read
+    ∷ entry (ascii "page") Page
+    ∷ entry (ascii "list") Listing
+    ∷ entry (ascii "pulse") Pulse
+    ∷ entry (ascii "make") Make
+    ∷ entry (ascii "take") Take
+    ∷ entry (ascii "lend") Lend
+    ∷ entry (ascii "show") Show
+    ∷ []
+
+-- The first keyword with that name.
+unfoldable pub lookedUp : List Entry → List ℕ → Found
+lookedUp [] text = Nothing
+lookedUp (e ∷ es) text = cond (sameText text (e .name)) (Is (e .keyword)) (lookedUp es text)
+
 -- The keyword that a word is.
 unfoldable pub keywordOf : List ℕ → Found
-keywordOf text =
-    cond (sameText text (ascii "start")) (Is Start) (
-    cond (sameText text (ascii "create")) (Is Create) (
-    cond (sameText text (ascii "change")) (Is Change) (
-    cond (sameText text (ascii "delete")) (Is Delete) (
-    cond (sameText text (ascii "erase")) (Is Erase) (
-    cond (sameText text (ascii "close")) (Is Close) (
-    cond (sameText text (ascii "free")) (Is Free) (
-    cond (sameText text (ascii "write")) (Is Write) (
-    cond (sameText text (ascii "read")) (Is Read) (
-    cond (sameText text (ascii "page")) (Is Page) (
-    cond (sameText text (ascii "list")) (Is Listing) (
-    cond (sameText text (ascii "pulse")) (Is Pulse) (
-    cond (sameText text (ascii "make")) (Is Make) (
-    cond (sameText text (ascii "take")) (Is Take) (
-    cond (sameText text (ascii "lend")) (Is Lend) (
-    cond (sameText text (ascii "show")) (Is Show) (
-    Nothing))))))))))))))))
+keywordOf text = lookedUp entries text
 
 -- What follows a keyword, in this order, and then nothing more.
 abbrev pub form : Keyword → List Expected

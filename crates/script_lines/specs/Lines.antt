@@ -13,7 +13,6 @@ use Rattle.model.specs.declared.command.Listed.the-variants as listed
 use Rattle.script_lines.specs.Arguments.{argumentsOf}
 use Rattle.script_lines.specs.Keywords.{keywordOf}
 use Rattle.script_lines.specs.Words.{first, part}
-use Rattle.script_lines.specs.declared.arguments.Arguments.{Arguments}
 use Rattle.script_lines.specs.declared.arguments.Fault.{Fault}
 use Rattle.script_lines.specs.declared.arguments.Fault.the-variants.{Expects, Nowhere}
 use Rattle.script_lines.specs.declared.keywords.Expected.the-variants as expected
@@ -45,35 +44,39 @@ writeOf domain way target start count =
     (command.WriteByPlacement domain target start count)
     (command.WriteByBlock domain target start count)
 
+-- Argument i, counted from 0.
+abbrev pub nth : List ℕ → ℕ → ℕ
+nth v i = getD v i 0
+
 -- What a keyword asks for with these arguments, which follow it in this order.
 unfoldable pub meaning : Keyword → List ℕ → Line
 meaning keyword.Start v = Start record {
-  pages = getD v 0 0;
-  dies = getD v 1 0;
-  planes = getD v 2 0;
-  adus = getD v 3 0;
-  blocks = getD v 4 0;
-  rated = getD v 5 0;
-  period = getD v 6 0;
+  pages = nth v 0;
+  dies = nth v 1;
+  planes = nth v 2;
+  adus = nth v 3;
+  blocks = nth v 4;
+  rated = nth v 5;
+  period = nth v 6;
 }
 meaning keyword.Create v =
-    Serve (command.Create (getD v 0 0) (planes (getD v 1 0)) (planes (getD v 2 0)) (getD v 3 0) (getD v 4 0))
-meaning keyword.Change v = Serve (command.ChangeCapacity (getD v 0 0) (planes (getD v 1 0)) (planes (getD v 2 0)))
-meaning keyword.Delete v = Serve (command.Delete (getD v 0 0))
-meaning keyword.Erase v = Serve (command.Erase (getD v 0 0) (getD v 1 0))
-meaning keyword.Close v = Serve (command.Close (getD v 0 0) (getD v 1 0))
-meaning keyword.Free v = Serve (command.Free (getD v 0 0) (getD v 1 0))
-meaning keyword.Write v = Serve (writeOf (getD v 0 0) (getD v 1 0) (getD v 2 0) (getD v 3 0) (adus (getD v 4 0)))
-meaning keyword.Read v = Serve (command.Read (getD v 0 0) (getD v 1 0) (adus (getD v 2 0)) (getD v 3 0))
-meaning keyword.Page v = Serve (command.Page (getD v 0 0) (getD v 1 0))
-meaning keyword.List v = Serve (command.List (getD v 0 0) (listedOf (getD v 1 0)))
-meaning keyword.Pulse v = Serve (command.Pulse (getD v 0 0))
+    Serve (command.Create (nth v 0) (planes (nth v 1)) (planes (nth v 2)) (nth v 3) (nth v 4))
+meaning keyword.Change v = Serve (command.ChangeCapacity (nth v 0) (planes (nth v 1)) (planes (nth v 2)))
+meaning keyword.Delete v = Serve (command.Delete (nth v 0))
+meaning keyword.Erase v = Serve (command.Erase (nth v 0) (nth v 1))
+meaning keyword.Close v = Serve (command.Close (nth v 0) (nth v 1))
+meaning keyword.Free v = Serve (command.Free (nth v 0) (nth v 1))
+meaning keyword.Write v = Serve (writeOf (nth v 0) (nth v 1) (nth v 2) (nth v 3) (adus (nth v 4)))
+meaning keyword.Read v = Serve (command.Read (nth v 0) (nth v 1) (adus (nth v 2)) (nth v 3))
+meaning keyword.Page v = Serve (command.Page (nth v 0) (nth v 1))
+meaning keyword.List v = Serve (command.List (nth v 0) (listedOf (nth v 1)))
+meaning keyword.Pulse v = Serve (command.Pulse (nth v 0))
 meaning keyword.Make v =
-    Make (getD v 0 0)
-    (getD v 1 0)
-    (record { page = getD v 2 0; die = getD v 3 0; plane = getD v 4 0; adu = getD v 5 0 })
-meaning keyword.Take v = Take (getD v 0 0)
-meaning keyword.Lend v = Lend (bufferOf (getD v 0 0)) (lengthOf (getD v 1 0))
+    Make (nth v 0)
+    (nth v 1)
+    (record { page = nth v 2; die = nth v 3; plane = nth v 4; adu = nth v 5 })
+meaning keyword.Take v = Take (nth v 0)
+meaning keyword.Lend v = Lend (bufferOf (nth v 0)) (lengthOf (nth v 1))
 meaning keyword.Show v = Show
 
 -- A line goes wrong where its arguments do.

@@ -10,12 +10,6 @@ Inv-loop table tally sum₀ domain₀ sum domain = Unit
 abbrev μ-loop : tie.MeasureT-loop
 μ-loop table tally sum₀ domain₀ sum domain = domain
 
-slice-aggregate-say : tie.Need-slice-aggregate-say Inv-loop μ-loop
-slice-aggregate-say c = search needs
-
-say-requires : tie.Need-say-requires Inv-loop μ-loop
-say-requires c κs = search needs
-
 surveyed-requires : tie.Need-surveyed-requires Inv-loop μ-loop
 surveyed-requires c κs = search needs
 
@@ -43,8 +37,6 @@ show-domains-spec =
     (tie.spec
     Inv-loop
     μ-loop
-    slice-aggregate-say
-    say-requires
     surveyed-requires
     loop-holds
     show-domain-requires

@@ -1,7 +1,8 @@
 -- A word that is none of the names so far is looked up among the rest.
 use lib.ListN.{drop}
 use borrow.Author.Needs.{needs}
-use Rattle.script_lines.proofs.Looking.{Among, among-all, entries, found, missed, passed}
+use Rattle.script_lines.proofs.Looking.{Among, among-all, found, missed, passed}
+use Rattle.script_lines.specs.Keywords.{entries}
 use Rattle.script_lines.proofs.keywords.keyword_of.Statement.{statement}
 use Rattle.script_lines.proofs.keywords.keyword_of.Tie as tie
 
