@@ -22,11 +22,11 @@
 use crate::calls::CONFIG;
 use crate::calls::Given;
 use crate::calls::called;
-use crate::tokens::line_end;
 use crate::tokens::line_of;
 use geometry::Config;
 use libc::STDIN_FILENO;
 use libc::STDOUT_FILENO;
+use script_lines::line_end;
 ghost use Prim.Native.Nat.{_≤_};
 ghost use lib.ListN.{length};
 

@@ -1,8 +1,6 @@
 // A line of the script as numbers. Its parts stand between blanks: a decimal number, a hexadecimal
 // one after 0x, or a word of up to 8 letters, which is its bytes as one number. Those behind an `=`
 // stand from index 8 on.
-ghost use Prim.Native.Nat.{_≤_};
-ghost use lib.ListN.{length};
 
 // What stands for a number where there is none: 8 bytes of a buffer that nothing has filled.
 pub const NONE: u64 = 0xa5a5_a5a5_a5a5_a5a5;
@@ -95,19 +93,4 @@ pub fn line_of(text: &[u8]) -> [u64; 17] {
         }
     }
     ended(line, part).parts
-}
-
-// Where the line that begins here ends.
-pub fn line_end(text: &[u8], from: usize) -> usize
-    requires { ⌜ from ≤ length (now text) ⌝ }
-    ensures { λ r. ⌜ (from ≤ r) × (r ≤ length (now (text .entry))) ⌝ }
-{
-    let mut at = from;
-    while at < text.len() {
-        if text[at] == b'\n' {
-            return at;
-        }
-        at += 1;
-    }
-    at
 }

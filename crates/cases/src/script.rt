@@ -41,7 +41,6 @@ use crate::desk::with_block;
 use crate::desk::with_config;
 use crate::desk::with_domain;
 use crate::tokens::Line;
-use crate::tokens::line_end;
 use crate::tokens::line_of;
 use crate::tokens::part_at;
 use geometry::Adus;
@@ -52,6 +51,7 @@ use model::Block;
 use model::Domain;
 use model::State;
 use model::Table;
+use script_lines::line_end;
 ghost use Prim.Native.Nat.{_≤_};
 ghost use lib.ListN.{length};
 

@@ -2,7 +2,6 @@
 // one after 0x, or a word of up to 8 letters, which is its bytes as one number. Where an `=` stands
 // is told apart from them.
 ghost use Prim.Native.Nat.{_≤_};
-ghost use lib.ListN.{length};
 
 pub struct Line {
     pub count: usize,
@@ -103,21 +102,6 @@ pub fn line_of(text: &[u8]) -> Line {
         }
     }
     ended(line, part)
-}
-
-// Where the line that begins here ends.
-pub fn line_end(text: &[u8], from: usize) -> usize
-    requires { ⌜ from ≤ length (now text) ⌝ }
-    ensures { λ r. ⌜ (from ≤ r) × (r ≤ length (now (text .entry))) ⌝ }
-{
-    let mut at = from;
-    while at < text.len() {
-        if text[at] == b'\n' {
-            return at;
-        }
-        at += 1;
-    }
-    at
 }
 
 // The part at an index; 0 past the last.

@@ -5,6 +5,7 @@ use crate::console::answer;
 use crate::console::no_drive;
 use crate::errors::tell_too_long;
 use libc::STDIN_FILENO;
+use script_lines::line_end;
 ghost use mathlib.Core.Path.{_≡_};
 ghost use Prim.Native.Nat.{_≤_};
 ghost use lib.ListN.{length};
@@ -12,21 +13,6 @@ ghost use Rattle.io.specs.Counts.{Counts};
 
 // The most bytes of a line.
 const LINE: usize = 4096;
-
-// Where the line that begins here ends.
-fn line_end(text: &[u8], from: usize) -> usize
-    requires { ⌜ from ≤ length (now text) ⌝ }
-    ensures { λ r. ⌜ (from ≤ r) × (r ≤ length (now (text .entry))) ⌝ }
-{
-    let mut at = from;
-    while at < text.len() {
-        if text[at] == b'\n' {
-            return at;
-        }
-        at += 1;
-    }
-    at
-}
 
 // A part of a line behind what is there of it, and how long it then is: more than LINE where that is
 // too long.

@@ -10,3 +10,4 @@ pub use lines::Buffer;
 pub use lines::Length;
 pub use lines::Line;
 pub use lines::parse;
+pub use words::line_end;

@@ -1,8 +1,9 @@
-// The words of a line: where one begins and ends, and whether it is a given one.
+// The lines of a text and the words of a line: where one begins and ends, and whether a word is a
+// given one.
 ghost use mathlib.Core.Path.{_≡_};
-ghost use Prim.Native.Nat.{_≤_};
+ghost use Prim.Native.Nat.{_≤_, min};
 ghost use lib.ListN.{length};
-ghost use Rattle.script_lines.specs.Words.{first, isBlank, isMark, sameText};
+ghost use Rattle.script_lines.specs.Words.{first, isBlank, isMark, lineEnd, sameText};
 
 // What a line is searched for.
 pub enum Mark {
@@ -12,6 +13,8 @@ pub enum Mark {
     Blank,
     // the sign that starts a comment
     Comment,
+    // the end of a line
+    Newline,
 }
 
 fn is_blank(b: u8) -> bool
@@ -27,6 +30,7 @@ fn is_mark(mark: Mark, b: u8) -> bool
         Mark::Word => !is_blank(b),
         Mark::Blank => is_blank(b),
         Mark::Comment => b == b'#',
+        Mark::Newline => b == b'\n',
     }
 }
 
@@ -44,6 +48,17 @@ pub fn first_mark(line: &[u8], at: usize, mark: Mark) -> usize
         i += 1;
     }
     i
+}
+
+// Where the line of a text that begins at an index ends.
+pub fn line_end(text: &[u8], from: usize) -> usize
+    ensures { λ r. ⌜ r ≡ lineEnd (now (text .entry)) from ⌝ }
+    ensures { λ r. ⌜ (min from (length (now (text .entry))) ≤ r) × (r ≤ length (now (text .entry))) ⌝ }
+{
+    if text.len() < from {
+        return text.len();
+    }
+    first_mark(text, from, Mark::Newline)
 }
 
 pub fn same_text(text: &[u8], name: &[u8]) -> bool

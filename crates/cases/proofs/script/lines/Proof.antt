@@ -23,7 +23,7 @@ abbrev μ-loop : tie.MeasureT-loop
 
 -- A line ends within the text, which is at most 65,536 bytes long.
 ends : (c : tie.After-line-end Inv-loop μ-loop) → c .line-end .result ≤ 65536
-ends c = le-trans (c .line-end .ensures .1) (c .before .before .before .before .before .before .before .before .before .before .before .before .pre)
+ends c = le-trans (c .line-end .ensures .1 .1) (c .before .before .before .before .before .before .before .before .before .before .before .before .pre)
 
 -- Where the line's end was found, from where its rows are back.
 abbrev read : tie.After-slice-known12 Inv-loop μ-loop → tie.After-line-end Inv-loop μ-loop

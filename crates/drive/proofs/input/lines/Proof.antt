@@ -20,13 +20,13 @@ gathered c = c .before .before .before .before .before .before .before .before
 
 -- A line ends within the part, which is at most 65,536 bytes long.
 ends : (c : tie.After-line-end Inv-loop μ-loop) → c .line-end .result ≤ 65536
-ends c = le-trans (c .line-end .ensures .1) (c .before .before .before .before .before .before .before .before .before .pre)
+ends c = le-trans (c .line-end .ensures .1 .1) (c .before .before .before .before .before .before .before .before .before .pre)
 
 loop-holds : tie.Need-loop-holds Inv-loop μ-loop
 loop-holds c = omega arith
 
 line-end-requires : tie.Need-line-end-requires Inv-loop μ-loop
-line-end-requires c κs = omega arith
+line-end-requires c κs = search needs
 
 sub-gather : tie.Need-sub-gather Inv-loop μ-loop
 sub-gather c = omega arith
