@@ -1,46 +1,41 @@
--- A word is looked up among the keywords one after the other.
+-- A word is looked up under one name after the other.
 use Prim.Native.Nat.{ℕ}
-use mathlib.Core.Bool.{Bool, true, false}
+use mathlib.Core.Bool.{cond}
 use mathlib.Core.List.{List, [], _∷_}
-use mathlib.Core.Path.{_≡_, refl, sym, _∙_}
+use mathlib.Core.Path.{_≡_, refl, ap, _∙_}
 use Rattle.script_lines.specs.Keywords.{Entry, entries, keywordOf, lookedUp}
 use Rattle.script_lines.specs.Words.{sameText}
+use Rattle.script_lines.specs.declared.keywords.Found.{Found}
 use Rattle.script_lines.specs.declared.keywords.Found.the-variants.{Is, Nothing}
 
--- Another name passes the first entry over ..
-pub later : (e : Entry) (es : List Entry) (text : List ℕ) → sameText text (e .name) ≡ false → lookedUp (e ∷ es) text ≡ lookedUp es text
+-- What a word is under these names.
+pub record Looked (text : List ℕ) (es : List Entry) : Type 0 where
+  pub found : Found
+  pub same : found ≡ lookedUp es text
+
+-- Under no name there is nothing.
+pub nothing-found : (text : List ℕ) → Nothing ≡ lookedUp [] text
 unfolding lookedUp
-later e es text n = rw n
+nothing-found text = refl
 
--- .. and its name finds it.
-here : (e : Entry) (es : List Entry) (text : List ℕ) → sameText text (e .name) ≡ true → lookedUp (e ∷ es) text ≡ Is (e .keyword)
+abbrev pub no-name : (text : List ℕ) → Looked text []
+no-name text = record { found = Nothing; same = nothing-found text }
+
+-- One name more goes before the others.
+pub first-name : (text : List ℕ) (e : Entry) (es : List Entry) (found others : Found)
+    → found ≡ cond (sameText text (e .name)) (Is (e .keyword)) others
+    → others ≡ lookedUp es text
+    → found ≡ lookedUp (e ∷ es) text
 unfolding lookedUp
-here e es text t = rw t
+first-name text e es found others made rest = made ∙ ap (λ (f : Found). cond (sameText text (e .name)) (Is (e .keyword)) f) rest
 
--- A word that is none of the keywords before these.
-pub record Among (es : List Entry) : Type 0 where
-  pub text : List ℕ
-  pub same : keywordOf text ≡ lookedUp es text
+infixl 40 _then_
+abbrev pub _then_ : {text : List ℕ} {e : Entry} {es : List Entry} {found : Found} (l : Looked text es)
+    → found ≡ cond (sameText text (e .name)) (Is (e .keyword)) (l .found)
+    → Looked text (e ∷ es)
+_then_ {text} {e} {es} {found} l made = record { found = found; same = first-name text e es found (l .found) made (l .same) }
 
--- It is looked up among all.
-pub looked-up : (text : List ℕ) → keywordOf text ≡ lookedUp entries text
+-- Under all of them it is the keyword.
+pub all-names : {text : List ℕ} (l : Looked text entries) → l .found ≡ keywordOf text
 unfolding keywordOf
-looked-up text = refl
-
--- At first it may be any.
-abbrev pub among-all : (text : List ℕ) → Among entries
-among-all text = record { text = text; same = looked-up text }
-
-module _ {e : Entry} {es : List Entry} (a : Among (e ∷ es)) {r : Bool} (s : r ≡ sameText (a .text) (e .name)) where
-  -- It is not the first of them.
-  abbrev pub passed : r ≡ false → Among es
-  passed n = record { text = a .text; same = a .same ∙ later e es (a .text) (sym s ∙ n) }
-
-  -- It is the first of them.
-  pub found : r ≡ true → Is (e .keyword) ≡ keywordOf (a .text)
-  found t = sym (a .same ∙ here e es (a .text) (sym s ∙ t))
-
--- None is left.
-pub missed : (a : Among []) → Nothing ≡ keywordOf (a .text)
-unfolding lookedUp
-missed a = sym (a .same)
+all-names l = l .same

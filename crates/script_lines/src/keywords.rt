@@ -1,10 +1,13 @@
 // The words that begin a line, and what is to follow each.
 use crate::words::same_text;
+ghost use mathlib.Core.Bool.{cond};
 ghost use mathlib.Core.Path.{_≡_};
 ghost use Prim.Native.Nat.{_<_, _≤_};
 ghost use lib.ListN.{getD, length};
 ghost use Rattle.script_lines.specs.Keywords.{form, keywordOf};
+ghost use Rattle.script_lines.specs.Words.{sameText};
 ghost use Rattle.script_lines.specs.declared.keywords.Expected.the-variants.{LineEnd};
+ghost use Rattle.script_lines.specs.declared.keywords.Found.the-variants.{Is};
 
 pub enum Keyword {
     Start,
@@ -48,59 +51,37 @@ pub enum Expected {
     LineEnd,
 }
 
-// The commands on blocks and domains, in document 01's order, and then the rest.
+// A keyword, where the word is its name.
+fn named_keyword(text: &[u8], name: &[u8], keyword: Keyword, otherwise: Found) -> Found
+    ensures { λ r. ⌜ r ≡ cond (sameText (now (text .entry)) (now (name .entry))) (Is keyword) otherwise ⌝ }
+{
+    if same_text(text, name) {
+        Found::Is(keyword)
+    } else {
+        otherwise
+    }
+}
+
+// No two names are the same, so their order is of no matter.
 pub fn keyword_of(text: &[u8]) -> Found
     ensures { λ r. ⌜ r ≡ keywordOf (now (text .entry)) ⌝ }
 {
-    if same_text(text, b"start") {
-        return Found::Is(Keyword::Start);
-    }
-    if same_text(text, b"create") {
-        return Found::Is(Keyword::Create);
-    }
-    if same_text(text, b"change") {
-        return Found::Is(Keyword::Change);
-    }
-    if same_text(text, b"delete") {
-        return Found::Is(Keyword::Delete);
-    }
-    if same_text(text, b"erase") {
-        return Found::Is(Keyword::Erase);
-    }
-    if same_text(text, b"close") {
-        return Found::Is(Keyword::Close);
-    }
-    if same_text(text, b"free") {
-        return Found::Is(Keyword::Free);
-    }
-    if same_text(text, b"write") {
-        return Found::Is(Keyword::Write);
-    }
-    if same_text(text, b"read") {
-        return Found::Is(Keyword::Read);
-    }
-    if same_text(text, b"page") {
-        return Found::Is(Keyword::Page);
-    }
-    if same_text(text, b"list") {
-        return Found::Is(Keyword::List);
-    }
-    if same_text(text, b"pulse") {
-        return Found::Is(Keyword::Pulse);
-    }
-    if same_text(text, b"make") {
-        return Found::Is(Keyword::Make);
-    }
-    if same_text(text, b"take") {
-        return Found::Is(Keyword::Take);
-    }
-    if same_text(text, b"lend") {
-        return Found::Is(Keyword::Lend);
-    }
-    if same_text(text, b"show") {
-        return Found::Is(Keyword::Show);
-    }
-    Found::Nothing
+    let found = named_keyword(text, b"show", Keyword::Show, Found::Nothing);
+    let found = named_keyword(text, b"lend", Keyword::Lend, found);
+    let found = named_keyword(text, b"take", Keyword::Take, found);
+    let found = named_keyword(text, b"make", Keyword::Make, found);
+    let found = named_keyword(text, b"pulse", Keyword::Pulse, found);
+    let found = named_keyword(text, b"list", Keyword::List, found);
+    let found = named_keyword(text, b"page", Keyword::Page, found);
+    let found = named_keyword(text, b"read", Keyword::Read, found);
+    let found = named_keyword(text, b"write", Keyword::Write, found);
+    let found = named_keyword(text, b"free", Keyword::Free, found);
+    let found = named_keyword(text, b"close", Keyword::Close, found);
+    let found = named_keyword(text, b"erase", Keyword::Erase, found);
+    let found = named_keyword(text, b"delete", Keyword::Delete, found);
+    let found = named_keyword(text, b"change", Keyword::Change, found);
+    let found = named_keyword(text, b"create", Keyword::Create, found);
+    named_keyword(text, b"start", Keyword::Start, found)
 }
 
 pub fn argument_count(keyword: Keyword) -> usize
