@@ -1,8 +1,7 @@
 // Numbers: decimal, or hexadecimal behind 0x.
 ghost use mathlib.Core.Path.{_≡_};
 ghost use Prim.Native.Nat.{_≤_, _<_};
-ghost use lib.ListN.{length};
-ghost use Rattle.script_lines.specs.Numbers.{continued, digitValue, isHex, numberIn, numberOf};
+ghost use Rattle.script_lines.specs.Numbers.{digitValue, isHex, numberIn, numberOf};
 
 // What a word stands for.
 pub enum Value {
