@@ -1,6 +1,6 @@
 // Numbers: decimal, or hexadecimal behind 0x.
 ghost use mathlib.Core.Path.{_≡_};
-ghost use Prim.Native.Nat.{_≤_, _<_};
+ghost use Prim.Native.Nat.{_≤_};
 ghost use Rattle.script_lines.specs.Numbers.{digitValue, isHex, numberIn, numberOf};
 
 // What a word stands for.
