@@ -3,14 +3,13 @@ use model::Answer;
 use model::Refusal;
 use model::Table;
 use tables::Served;
-use tables::Sweep;
 use tables::Verdict;
 use tables::clear_domain;
 use tables::domain_verdict;
 use tables::refused;
 use tables::surveyed;
 use tables::with_domain;
-use tables::with_each_block;
+use tables::with_freed;
 ghost use mathlib.Core.List.{List};
 ghost use mathlib.Core.Path.{_≡_};
 ghost use Prim.Native.Nat.{ℕ, _≤_};
@@ -24,7 +23,7 @@ fn deleted_domain(table: Table, domain: u64) -> Table
     requires { ⌜ size table ≤ 256 ⌝ }
     ensures { λ r. ⌜ r ≡ deletedDomain domain table ⌝ }
 {
-    let freed = with_each_block(table, Sweep::Freeing(domain));
+    let freed = with_freed(table, domain);
     with_domain(freed, domain, clear_domain())
 }
 

@@ -1,18 +1,17 @@
 -- The laws of the survey: how its counts grow, and that its tests together are the test of soundness.
 use Prim.Native.Nat.{ℕ, _+_, _-_, _<_, max}
-use mathlib.Core.Bool.{Bool, true, false, true≢false, not, _&&_, _||_, cond}
-use mathlib.Core.List.{List}
+use mathlib.Core.Bool.{Bool, true, false, true≢false, not, _&&_, cond}
 use mathlib.Core.Path.{_≡_, refl, sym, ap, ap₂, _∙_}
 use native.Mathlib.Omega.{arith}
 use lib.Dec.{eqb, leb, ltb}
-use lib.ListN.{getD, length, set}
-use lib.Seq.{getD-set-same, getD-set-other}
-use borrow.Author.Tests.{eqb-false, eqb-true}
+use lib.ListN.{getD}
+use borrow.Author.Tests.{leb-true, not-true}
 use Rattle.geometry.proofs.Laws.Shape.{both, by-test}
 use Rattle.geometry.specs.Address.{isDomainId}
 use Rattle.geometry.specs.Shape.{adusPerBlock, between, withinLimits}
 use Rattle.geometry.specs.declared.shape.Adus.{Adus}
-use Rattle.tables.specs.Survey.{Counts, Surveyed, blockSound, blocksSound, coveredTo, domainSound, domainsSound, holderRecord, notSound, pairSound, pairsSound}
+use Rattle.tables.proofs.Slots.{apart-new, slot-apart, slot-shared, slot-tells}
+use Rattle.tables.specs.Survey.{Counts, Surveyed, blockSound, blocksSound, coveredTo, domainSound, domainsSound, holderRecord, notSound, placementSlot, serialNew, slotNew}
 use Rattle.tables.specs.declared.survey.Survey.{Survey}
 use Rattle.tables.specs.declared.tally.Tally.{Tally}
 use Rattle.model.specs.declared.block.Block.{Block}
@@ -23,41 +22,10 @@ use Rattle.model.specs.declared.table.Domain.{Domain}
 use Rattle.model.specs.declared.table.Table.{Table}
 use Rattle.rules.proofs.Counting.{all-each, all-same, each-all, same-test, sum-same}
 use Rattle.rules.proofs.Soundness.{apart, together}
-use Rattle.rules.specs.Counting.{allTo}
+use Rattle.rules.specs.Counting.{allTo, implies}
 use Rattle.rules.specs.Domains.{coverage, reservedBy}
-use Rattle.rules.specs.Drive.{blockAt, clearDomain, domainAt, eachDomain, heldCount, openCount, size}
-use Rattle.rules.specs.Soundness.{countsKept, freeIsClear, holderExists, missingIsClear, openLimitKept, placementExists, placementsDiffer, quotaKept, serialGiven, serialsDiffer, sound, wayBelow}
-
--- The entry h of a row of counts grows by a test q: that entry alone, and only if q holds.
-pub grown : (row : List ℕ) (h d : ℕ) (q : Bool) → h < length row
-    → getD (set row h (getD row h 0 + cond q 1 0)) d 0 ≡ getD row d 0 + cond (eqb h d && q) 1 0
-grown row h d q l = go (eqb h d) refl
-  where
-    go : (s : Bool) → eqb h d ≡ s → getD (set row h (getD row h 0 + cond q 1 0)) d 0 ≡ getD row d 0 + cond (s && q) 1 0
-    go true e = rw (← eqb-true h d e, getD-set-same row h (getD row h 0 + cond q 1 0) 0 l)
-    go false e = rw (getD-set-other row h d (getD row h 0 + cond q 1 0) 0 (λ p. eqb-false h d e (sym p))) (omega arith)
-
--- ---- The tests of two blocks
-
--- Of blocks of one holder the two clauses are one test: unlike in serial and placement, or one of them Free; ..
-pub one-holder : (s p f g : Bool)
-    → not ((s || p) && not f && not g) ≡ not (not f && not g && true && s) && not (not f && not g && true && p)
-one-holder true p true g = refl
-one-holder true p false true = refl
-one-holder true p false false = refl
-one-holder false true true g = refl
-one-holder false true false true = refl
-one-holder false true false false = refl
-one-holder false false true g = refl
-one-holder false false false true = refl
-one-holder false false false false = refl
-
--- .. blocks of two holders always pass.
-pub two-holders : (s p f g : Bool)
-    → true ≡ not (not f && not g && false && s) && not (not f && not g && false && p)
-two-holders s p true g = refl
-two-holders s p false true = refl
-two-holders s p false false = refl
+use Rattle.rules.specs.Drive.{blockAt, clearDomain, domainAt, eachDomain, heldCount, isFree, openCount, size}
+use Rattle.rules.specs.Soundness.{countsKept, freeIsClear, holderExists, missingIsClear, openLimitKept, placementExists, placementsDiffer, quotaKept, sameHolder, samePlacement, serialGiven, serialsDiffer, sound, wayBelow}
 
 -- ---- The whole
 
@@ -181,7 +149,7 @@ domain-at t i = ap (λ n. getD (t .domains) n clearDomain) (before i)
     before n = omega arith
 
 -- With the counts the survey's sum is the coverage.
-pub covers : (t : Table) (y : Tally) → Counts t (size t) y → coveredTo t y 16 ≡ coverage (reservedBy t) (heldCount t)
+pub covers : (t : Table) (y : Tally) → Counts t (size t) y → coveredTo (t .domains) y 16 ≡ coverage (reservedBy t) (heldCount t)
 unfolding coveredTo coverage
 covers t y c =
     sum-same 16
@@ -203,7 +171,7 @@ domain-apart t d q =
 
 -- .. and that the survey tests them of every domain.
 domain-tests : (t : Table) (y : Tally) → Counts t (size t) y
-    → domainsSound t y 16 ≡ eachDomain (domainTest t)
+    → domainsSound (t .domains) (size t) y 16 ≡ eachDomain (domainTest t)
 unfolding domainsSound domainSound
 domain-tests t y c =
     all-same 16
@@ -213,69 +181,118 @@ domain-tests t y c =
 
 -- The survey's tests, with the tally's counts.
 abbrev pub passes : Table → Tally → Bool
-passes t y = blocksSound t (size t) && domainsSound t y 16 && leb (coveredTo t y 16) (size t) && pairsSound t (size t)
+passes t y = blocksSound t (size t) && domainsSound (t .domains) (size t) y 16 && leb (coveredTo (t .domains) y 16) (size t)
+
+-- What is tested of block n: its own clauses, and those that it shares with the blocks before it.
+record Tested (t : Table) (n : ℕ) : Type 0 where
+  own : BlockClauses t (blockAt t n)
+  slot : slotNew t n ≡ true
+  serial : serialNew t n ≡ true
+
+blocks-apart : (t : Table) → blocksSound t (size t) ≡ true → (n : ℕ) → n < size t → Tested t n
+unfolding blocksSound
+blocks-apart t q n l =
+    let e = all-each (size t) (λ i. testOf t (blockAt t i) && slotNew t i && serialNew t i) q n l in
+    let e2 = both (testOf t (blockAt t n) && slotNew t n) (serialNew t n) e in
+    let e1 = both (testOf t (blockAt t n)) (slotNew t n) (e2 .0) in
+    record { own = block-apart t (blockAt t n) (e1 .0); slot = e1 .1; serial = e2 .1 }
+
+blocks-together : (t : Table) → ((n : ℕ) → n < size t → Tested t n) → blocksSound t (size t) ≡ true
+unfolding blocksSound
+blocks-together t h =
+    each-all (size t) (λ i. testOf t (blockAt t i) && slotNew t i && serialNew t i)
+    (λ n l. joined (joined (block-together t (blockAt t n) (h n l .own)) (h n l .slot)) (h n l .serial))
+
+-- A placement of a block that has its clauses is below 16, so that the slots tell its open blocks apart.
+placements-apart : (t : Table) → ((i : ℕ) → i < 16 → openLimitKept t (i + 1) ≡ true) → (n m : ℕ) → BlockClauses t (blockAt t n)
+    → slotNew t n ≡ true → m < n → placementsDiffer (blockAt t n) (blockAt t m) ≡ true
+unfolding placementSlot
+placements-apart t limited n m own new l =
+    let b = blockAt t n in
+    let other = blockAt t m in
+    by-test (sameHolder b other && samePlacement (b .state) (other .state))
+    (λ e.
+    let q = both (sameHolder b other) (samePlacement (b .state) (other .state)) e in
+    let h = both (not (isFree b) && not (isFree other)) (eqb (b .holder) (other .holder)) (q .0) in
+    let f = not-true (isFree b) (both (not (isFree b)) (not (isFree other)) (h .0) .0) in
+    let d = both (isDomainId (b .holder)) (domainAt t (b .holder) .exists) (rw f at (own .held)) in
+    let r = both (leb 1 (b .holder)) (leb (b .holder) 16) (d .0) in
+    let low = leb-true 1 (b .holder) (r .0) in
+    let high = leb-true (b .holder) 16 (r .1) in
+    let i : b .holder - 1 + 1 ≡ b .holder = omega (arith, low) in
+    let most = leb-true (domainAt t (b .holder) .placements) 16
+    (most-placements (domainAt t (b .holder)) (openCount t (b .holder)) (d .1) (rw i at (limited (b .holder - 1) (omega (arith, low, high))))) in
+    let s = slot-shared (b .state) (other .state) (b .holder) (other .holder) (domainAt t (b .holder) .placements) most (λ g. d .0) (own .placed) (h .1) (q .1) in
+    absurd (slot-apart t n new m l (s .1) (s .0)))
+    (λ e. rw e)
+  where
+    most-placements : (r : Domain) (opened : ℕ) → r .exists ≡ true
+        → implies (r .exists) (between 1 16 (r .placements) && between (r .placements) 256 (r .limit) && leb opened (r .limit)) ≡ true
+        → leb (r .placements) 16 ≡ true
+    most-placements r opened e q =
+        let x = both (between 1 16 (r .placements) && between (r .placements) 256 (r .limit)) (leb opened (r .limit)) (rw e at q) in
+        let z = both (between 1 16 (r .placements)) (between (r .placements) 256 (r .limit)) (x .0) in
+        both (leb 1 (r .placements)) (leb (r .placements) 16) (z .0) .1
+
+slots-apart : (t : Table) (n : ℕ) → ((m : ℕ) → m < n → placementsDiffer (blockAt t n) (blockAt t m) ≡ true) → slotNew t n ≡ true
+unfolding placementSlot
+slots-apart t n differ = apart-new t n (λ m l small e.
+    let b = blockAt t n in
+    let other = blockAt t m in
+    let s = slot-tells (b .state) (other .state) (b .holder) (other .holder) e small in
+    true≢false (sym (differ m l) ∙ rw (s .0, s .1, s .2, s .3)))
 
 -- They all pass exactly where the table is sound: soundness from the tests, ..
 passed-sound : (t : Table) (y : Tally) → withinLimits (t .config) ≡ true → Counts t (size t) y → passes t y ≡ true → sound t ≡ true
-unfolding blocksSound pairsSound pairSound
+unfolding serialNew
 passed-sound t y limits c q =
-    let q3 = both _ (pairsSound t (size t)) q in
-    let q2 = both _ (leb (coveredTo t y 16) (size t)) (q3 .0) in
-    let q1 = both (blocksSound t (size t)) (domainsSound t y 16) (q2 .0) in
-    let ofBlock : (n : ℕ) → n < size t → BlockClauses t (blockAt t n) =
-    λ n l. block-apart t (blockAt t n) (all-each (size t) (λ i. testOf t (blockAt t i)) (q1 .0) n l) in
+    let q2 = both _ (leb (coveredTo (t .domains) y 16) (size t)) q in
+    let q1 = both (blocksSound t (size t)) (domainsSound (t .domains) (size t) y 16) (q2 .0) in
+    let ofBlock = blocks-apart t (q1 .0) in
     let ofDomain : (i : ℕ) → i < 16 → domainTest t (i + 1) ≡ true =
     all-each 16 (λ i. domainTest t (i + 1)) (sym (domain-tests t y c) ∙ q1 .1) in
-    let ofPair : (n m : ℕ) → n < size t → m < n
-    → (serialsDiffer (blockAt t n) (blockAt t m) ≡ true) × (placementsDiffer (blockAt t n) (blockAt t m) ≡ true) = λ n m l k.
-    both (serialsDiffer (blockAt t n) (blockAt t m)) (placementsDiffer (blockAt t n) (blockAt t m))
-    (all-each n (λ j. pairSound (blockAt t n) (blockAt t j))
-    (all-each (size t) (λ i. allTo (λ j. pairSound (blockAt t i) (blockAt t j)) i) (q3 .1) n l) m k) in
+    let limited : (i : ℕ) → i < 16 → openLimitKept t (i + 1) ≡ true = λ i l. domain-apart t (i + 1) (ofDomain i l) .1 in
     together t (record {
       limits = limits;
       quotas = each-all 16 (λ i. quotaKept t (i + 1)) (λ i l. domain-apart t (i + 1) (ofDomain i l) .0);
       coverage = ap (λ n. leb n (size t)) (sym (covers t y c)) ∙ q2 .1;
-      open-limits = each-all 16 (λ i. openLimitKept t (i + 1)) (λ i l. domain-apart t (i + 1) (ofDomain i l) .1);
-      serials-differ =
-          each-all (size t) (λ n. allTo (λ m. serialsDiffer (blockAt t n) (blockAt t m)) n)
-          (λ n l. each-all n (λ m. serialsDiffer (blockAt t n) (blockAt t m)) (λ m k. ofPair n m l k .0));
-      serials-given = each-all (size t) (λ n. serialGiven t (blockAt t n)) (λ n l. ofBlock n l .given);
-      holders = each-all (size t) (λ n. holderExists t (blockAt t n)) (λ n l. ofBlock n l .held);
-      placements = each-all (size t) (λ n. placementExists t (blockAt t n)) (λ n l. ofBlock n l .placed);
+      open-limits = each-all 16 (λ i. openLimitKept t (i + 1)) limited;
+      serials-differ = each-all (size t) (λ n. allTo (λ m. serialsDiffer (blockAt t n) (blockAt t m)) n) (λ n l. ofBlock n l .serial);
+      serials-given = each-all (size t) (λ n. serialGiven t (blockAt t n)) (λ n l. ofBlock n l .own .given);
+      holders = each-all (size t) (λ n. holderExists t (blockAt t n)) (λ n l. ofBlock n l .own .held);
+      placements = each-all (size t) (λ n. placementExists t (blockAt t n)) (λ n l. ofBlock n l .own .placed);
       placements-differ =
           each-all (size t) (λ n. allTo (λ m. placementsDiffer (blockAt t n) (blockAt t m)) n)
-          (λ n l. each-all n (λ m. placementsDiffer (blockAt t n) (blockAt t m)) (λ m k. ofPair n m l k .1));
-      counts = each-all (size t) _ (λ n l. ofBlock n l .counts);
-      free-clear = each-all (size t) (λ n. freeIsClear (blockAt t n)) (λ n l. ofBlock n l .clear);
+          (λ n l. each-all n (λ m. placementsDiffer (blockAt t n) (blockAt t m)) (λ m k. placements-apart t limited n m (ofBlock n l .own) (ofBlock n l .slot) k));
+      counts = each-all (size t) _ (λ n l. ofBlock n l .own .counts);
+      free-clear = each-all (size t) (λ n. freeIsClear (blockAt t n)) (λ n l. ofBlock n l .own .clear);
       missing-clear = each-all 16 (λ i. missingIsClear (domainAt t (i + 1))) (λ i l. domain-apart t (i + 1) (ofDomain i l) .2);
     })
 
 -- .. the tests from soundness, ..
 sound-passed : (t : Table) (y : Tally) → Counts t (size t) y → sound t ≡ true → passes t y ≡ true
-unfolding blocksSound pairsSound pairSound
+unfolding serialNew
 sound-passed t y c s =
     let h = apart t s in
     joined
     (joined
-    (joined
-    (each-all (size t) (λ i. testOf t (blockAt t i)) (λ n l. block-together t (blockAt t n) (record {
-      given = all-each (size t) (λ i. serialGiven t (blockAt t i)) (h .serials-given) n l;
-      held = all-each (size t) (λ i. holderExists t (blockAt t i)) (h .holders) n l;
-      placed = all-each (size t) (λ i. placementExists t (blockAt t i)) (h .placements) n l;
-      counts = all-each (size t) _ (h .counts) n l;
-      clear = all-each (size t) (λ i. freeIsClear (blockAt t i)) (h .free-clear) n l;
-    })))
+    (blocks-together t (λ n l. record {
+      own = record {
+        given = all-each (size t) (λ i. serialGiven t (blockAt t i)) (h .serials-given) n l;
+        held = all-each (size t) (λ i. holderExists t (blockAt t i)) (h .holders) n l;
+        placed = all-each (size t) (λ i. placementExists t (blockAt t i)) (h .placements) n l;
+        counts = all-each (size t) _ (h .counts) n l;
+        clear = all-each (size t) (λ i. freeIsClear (blockAt t i)) (h .free-clear) n l;
+      };
+      slot = slots-apart t n (all-each n (λ m. placementsDiffer (blockAt t n) (blockAt t m))
+          (all-each (size t) (λ n. allTo (λ m. placementsDiffer (blockAt t n) (blockAt t m)) n) (h .placements-differ) n l));
+      serial = all-each (size t) (λ n. allTo (λ m. serialsDiffer (blockAt t n) (blockAt t m)) n) (h .serials-differ) n l;
+    }))
     (domain-tests t y c ∙ each-all 16 (λ i. domainTest t (i + 1)) (λ i l. joined (joined
     (all-each 16 (λ i. quotaKept t (i + 1)) (h .quotas) i l)
     (all-each 16 (λ i. openLimitKept t (i + 1)) (h .open-limits) i l))
     (all-each 16 (λ i. missingIsClear (domainAt t (i + 1))) (h .missing-clear) i l))))
-    (ap (λ n. leb n (size t)) (covers t y c) ∙ h .coverage))
-    (each-all (size t) (λ n. allTo (λ m. pairSound (blockAt t n) (blockAt t m)) n)
-    (λ n l. each-all n (λ m. pairSound (blockAt t n) (blockAt t m)) (λ m k. joined
-    (all-each n (λ m. serialsDiffer (blockAt t n) (blockAt t m))
-    (all-each (size t) (λ n. allTo (λ m. serialsDiffer (blockAt t n) (blockAt t m)) n) (h .serials-differ) n l) m k)
-    (all-each n (λ m. placementsDiffer (blockAt t n) (blockAt t m))
-    (all-each (size t) (λ n. allTo (λ m. placementsDiffer (blockAt t n) (blockAt t m)) n) (h .placements-differ) n l) m k))))
+    (ap (λ n. leb n (size t)) (covers t y c) ∙ h .coverage)
 
 -- .. and so the one is the other.
 pub survey-sound : (t : Table) (y : Tally) → withinLimits (t .config) ≡ true → Counts t (size t) y → passes t y ≡ sound t

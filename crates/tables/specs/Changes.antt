@@ -1,4 +1,4 @@
--- The changes of a table that commands share.
+-- The choice of a block.
 use Prim.Native.Nat.{ℕ}
 use mathlib.Core.Bool.{cond}
 use mathlib.Core.Option.{Option, none, some}
@@ -6,20 +6,11 @@ use mathlib.Core.Path.{_≡_}
 use lib.Dec.{ltb}
 use Rattle.tables.specs.declared.choice.Choice.{Choice}
 use Rattle.tables.specs.declared.choice.Choice.the-variants.{Block as Chosen, Nothing}
-use Rattle.tables.specs.declared.sweep.Sweep.{Sweep}
-use Rattle.tables.specs.declared.sweep.Sweep.the-variants.{Counting, Freeing}
-use Rattle.model.specs.Blocks.{countedDown}
 use Rattle.model.specs.declared.block.Block.{Block}
 use Rattle.model.specs.declared.block.State.{State}
 use Rattle.model.specs.declared.block.State.the-variants.{Closed, Free, Open}
 use Rattle.model.specs.declared.table.Table.{Table}
-use Rattle.rules.specs.Domains.{freedIfHeld}
 use Rattle.rules.specs.Drive.{blockAt}
-
--- One change of every block: a domain's blocks are freed, or open blocks count down.
-abbrev pub swept : Sweep → Block → Block
-swept (Freeing d) b = freedIfHeld d b
-swept (Counting seconds) b = countedDown seconds b
 
 -- The block that is chosen, and the P/E count that its record has.
 abbrev pub chosen : Choice → Option ℕ

@@ -6,7 +6,7 @@ ghost use mathlib.Core.Path.{_≡_};
 ghost use Prim.Native.Nat.{_≤_};
 ghost use Rattle.rules.specs.Blocks.{chosenBlock, erasedBlock};
 ghost use Rattle.rules.specs.Drive.{size};
-ghost use Rattle.tables.specs.Changes.{ErasesKnown, betterOf, chosen};
+ghost use Rattle.tables.specs.Changes.{betterOf, chosen};
 
 pub enum Choice {
     Nothing,

@@ -59,7 +59,8 @@ pub fn domain_at(table: Table, domain: u64) -> Domain
     let p = place(domain);
     if p < 16 {
         let n = p as usize;
-        return table.domains[n];
+        let domains = table.domains;
+        return domains[n];
     }
     clear_domain()
 }

@@ -4,8 +4,8 @@ use borrow.Author.Needs.{needs}
 use Rattle.domains.proofs.deleting.deleted_domain.Statement.{statement}
 use Rattle.domains.proofs.deleting.deleted_domain.Tie as tie
 
-with-each-block-requires : tie.Need-with-each-block-requires
-with-each-block-requires c κs = search needs
+with-freed-requires : tie.Need-with-freed-requires
+with-freed-requires c κs = search needs
 
 clear-domain-requires : tie.Need-clear-domain-requires
 clear-domain-requires c κs = search needs
@@ -15,9 +15,9 @@ with-domain-requires c κs = search needs
 
 returns : tie.Need-returns
 unfolding deletedDomain
-returns c = rw (c .with-domain .ensures, c .before .clear-domain .ensures, c .before .before .with-each-block .ensures)
+returns c = rw (c .with-domain .ensures, c .before .clear-domain .ensures, c .before .before .with-freed .ensures)
 
 pub deleted-domain-spec : {M : Type 1} → statement M
 deleted-domain-spec =
     tie.close
-    (tie.spec with-each-block-requires clear-domain-requires with-domain-requires returns)
+    (tie.spec with-freed-requires clear-domain-requires with-domain-requires returns)

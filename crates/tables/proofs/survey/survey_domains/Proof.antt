@@ -7,27 +7,27 @@ use lib.ListN.{getD}
 use borrow.Author.Needs.{needs}
 use Rattle.tables.specs.Survey.{coveredTo, domainsSound}
 use Rattle.rules.specs.Drive.{clearDomain}
-use Rattle.tables.proofs.survey.survey_domains.Statement.{statement}
 use Rattle.rules.proofs.Counting.{all-next, all-none, sum-next, sum-none}
+use Rattle.tables.proofs.survey.survey_domains.Statement.{statement}
 use Rattle.tables.proofs.survey.survey_domains.Tie as tie
 
 abbrev Inv-loop : tie.InvT-loop
-Inv-loop table tally size sound₀ coverage₀ n₀ sound coverage n =
-    (n ≤ 16) × (coverage ≤ n * 4294967296) × (size ≡ table .config .blocks)
-    × (sound ≡ sound₀ && domainsSound table tally n) × (coverage ≡ coveredTo table tally n)
+Inv-loop tally domains size sound₀ coverage₀ n₀ sound coverage n =
+    (n ≤ 16) × (coverage ≤ n * 4294967296)
+    × (sound ≡ sound₀ && domainsSound domains size tally n) × (coverage ≡ coveredTo domains tally n)
 
 abbrev μ-loop : tie.MeasureT-loop
-μ-loop table tally size sound₀ coverage₀ n₀ sound coverage n = 16 - n
+μ-loop tally domains size sound₀ coverage₀ n₀ sound coverage n = 16 - n
 
 loop-holds : tie.Need-loop-holds Inv-loop μ-loop
 unfolding domainsSound coveredTo
-loop-holds c = (omega arith, omega arith, refl, rw all-none (sym (and-true _)), sym (sum-none _))
+loop-holds c = (omega arith, omega arith, rw all-none (sym (and-true _)), sym (sum-none _))
 
 mul-domain : tie.Need-mul-domain Inv-loop μ-loop
 mul-domain c = omega arith
 
-element-copy-out-domain : tie.Need-element-copy-out-domain Inv-loop μ-loop
-element-copy-out-domain c = omega arith
+array-copy-out-domain : tie.Need-array-copy-out-domain Inv-loop μ-loop
+array-copy-out-domain c = omega arith
 
 add-id : tie.Need-add-id Inv-loop μ-loop
 add-id c = omega arith
@@ -58,32 +58,29 @@ loop-less c = omega arith
 
 loop-again : tie.Need-loop-again Inv-loop μ-loop
 unfolding domainsSound coveredTo
-loop-again c = let l = c .before .before .before .before .before .before .before .loop in
-    let t = c .before .before .before .before .before .before .before .before .before .args .t1 in
-    let y = c .before .before .before .before .before .before .before .before .before .args .blocks .tally in (
-      omega arith,
-      omega arith,
-      refl,
-      rw (
-        all-next,
-        c .before .before .domain-sound .ensures,
-        c .before .before .before .opened-by .ensures .0,
-        c .before .before .before .before .held-by .ensures .0,
-        l .inv .3,
-        and-assoc,
-      ),
-      omega (
-        arith,
-        c .before .before .before .before .held-by .ensures .0,
-        sum-next (λ i. max (getD (t .domains) i clearDomain .reserved) (getD (y .held) (i + 1) 0)) (l .n),
-      ),
-    )
+loop-again c = let l = c .before .before .before .before .before .before .before .loop in let z = c .before .before .before .before .before .before .before .before .before .before .args in (
+  omega arith,
+  omega arith,
+  rw (
+    all-next,
+    c .before .before .domain-sound .ensures,
+    c .before .before .before .opened-by .ensures .0,
+    c .before .before .before .before .held-by .ensures .0,
+    l .inv .2,
+    and-assoc,
+  ),
+  omega (
+    arith,
+    c .before .before .before .before .held-by .ensures .0,
+    sum-next (λ i. max (getD (z .table .domains) i clearDomain .reserved) (getD (z .blocks .tally .held) (i + 1) 0)) (l .n),
+  ),
+)
 
 returns : tie.Need-returns Inv-loop μ-loop
 returns c = let h : c .before .loop .n ≡ 16 = omega arith in
     record {
-      clauses = rw h at (c .before .loop .inv .3);
-      coverage-sum = rw h at (c .before .loop .inv .4);
+      clauses = rw h at (c .before .loop .inv .2);
+      coverage-sum = rw h at (c .before .loop .inv .3);
       same-tally = refl;
     }
 
@@ -95,7 +92,7 @@ survey-domains-spec =
     μ-loop
     loop-holds
     mul-domain
-    element-copy-out-domain
+    array-copy-out-domain
     add-id
     held-by-requires
     opened-by-requires

@@ -2,7 +2,7 @@ use mathlib.Core.Bool.{false, true, true≢false, _&&_}
 use mathlib.Core.Path.{_≡_, sym, _∙_}
 use lib.Dec.{leb}
 use borrow.Author.Tests.{not-false, not-true}
-use Rattle.geometry.proofs.Laws.Shape.{both, limits}
+use Rattle.geometry.proofs.Laws.Shape.{both}
 use Rattle.geometry.specs.Shape.{withinLimits}
 use Rattle.rules.specs.Soundness.{sound}
 use Rattle.tables.proofs.Surveying.{covers, held-counted, open-counted, outside-unsound, survey-sound, unsound-survey}
@@ -12,16 +12,15 @@ use Rattle.tables.proofs.survey.surveyed.Statement.{statement}
 use Rattle.tables.proofs.survey.surveyed.Tie as tie
 
 -- The tests together.
-tests : (c : tie.After-pairs-sound) → let t = c .before .before .before .before .before .before .before .before .before .args .table in
-    let all = c .before .before .before .before .survey-domains .result in
-    all .sound && leb (all .coverage) (t .config .blocks) && c .pairs-sound .result ≡ sound t
+tests : (c : tie.After-survey-domains) → let t = c .before .before .before .before .before .args .table in let all = c .survey-domains .result in
+    all .sound && leb (all .coverage) (t .config .blocks) ≡ sound t
 tests c =
-    let t = c .before .before .before .before .before .before .before .before .before .args .table in
-    let bs = c .before .before .before .before .before .survey-blocks .ensures in
-    let ds = c .before .before .before .before .survey-domains .ensures in
-    let y = c .before .before .before .before .before .survey-blocks .result .tally in
-    let e : withinLimits (t .config) ≡ true = sym (c .before .before .before .before .before .before .before .within-limits .ensures) ∙ not-false _ (c .before .before .before .before .before .before .if1 .left) in
-    rw (ds .clauses, bs .clauses, ds .coverage-sum, c .pairs-sound .ensures) (survey-sound t y e (bs .counts))
+    let t = c .before .before .before .before .before .args .table in
+    let bs = c .before .survey-blocks .ensures in
+    let ds = c .survey-domains .ensures in
+    let y = c .before .survey-blocks .result .tally in
+    let e : withinLimits (t .config) ≡ true = sym (c .before .before .before .within-limits .ensures) ∙ not-false _ (c .before .before .if1 .left) in
+    rw (ds .clauses, bs .clauses, ds .coverage-sum) (survey-sound t y e (bs .counts))
 
 within-limits-requires : tie.Need-within-limits-requires
 within-limits-requires c κs = search needs
@@ -39,19 +38,15 @@ survey-blocks-requires c κs = sym (c .before .within-limits .ensures) ∙ not-f
 survey-domains-requires : tie.Need-survey-domains-requires
 survey-domains-requires c κs = search needs
 
-pairs-sound-requires : tie.Need-pairs-sound-requires
-pairs-sound-requires c κs = let t = c .before .before .before .before .before .before .before .before .args .table in
-    limits (t .config) (sym (c .before .before .before .before .before .before .within-limits .ensures) ∙ not-false _ (c .before .before .before .before .before .if1 .left)) .ranges .blocks .most
-
 returns-2 : tie.Need-returns-2
-returns-2 c = let t = c .before .before .before .before .before .before .before .before .before .before .args .table in
-    let bs = c .before .before .before .before .before .before .survey-blocks .ensures in
-    let ds = c .before .before .before .before .before .survey-domains .ensures in
-    let y = c .before .before .before .before .before .before .survey-blocks .result .tally in
-    let all = c .before .before .before .before .before .survey-domains .result in
-    let yes : all .sound ≡ true = both (all .sound) (leb (all .coverage) (t .config .blocks)) (both (all .sound && leb (all .coverage) (t .config .blocks)) _ (c .if2 .taken) .0) .0 in
+returns-2 c = let t = c .before .before .before .before .before .before .before .before .before .args .table in
+    let bs = c .before .before .before .before .before .survey-blocks .ensures in
+    let ds = c .before .before .before .before .survey-domains .ensures in
+    let y = c .before .before .before .before .before .survey-blocks .result .tally in
+    let all = c .before .before .before .before .survey-domains .result in
+    let yes : all .sound ≡ true = both (all .sound) (leb (all .coverage) (t .config .blocks)) (c .if2 .taken) .0 in
     record {
-      tested = yes ∙ sym (c .if2 .taken) ∙ tests (c .before);
+      tested = yes ∙ sym (c .if2 .taken) ∙ tests (c .before .before .before .before);
       held = λ s d w. rw (ds .same-tally) (held-counted t y (bs .counts) d w);
       opened = λ s d w. rw (ds .same-tally) (open-counted t y (bs .counts) d w);
       covers = λ s. ds .coverage-sum ∙ covers t y (bs .counts);
@@ -62,8 +57,8 @@ not-sound-requires-2 : tie.Need-not-sound-requires-2
 not-sound-requires-2 c κs = search needs
 
 returns-3 : tie.Need-returns-3
-returns-3 c = let t = c .before .before .before .before .before .before .before .before .before .before .before .args .table in
-    unsound-survey t (c .not-sound2 .result) (c .not-sound2 .ensures) (sym (tests (c .before .before)) ∙ c .before .if2 .left)
+returns-3 c = let t = c .before .before .before .before .before .before .before .before .before .before .args .table in
+    unsound-survey t (c .not-sound2 .result) (c .not-sound2 .ensures) (sym (tests (c .before .before .before .before .before)) ∙ c .before .if2 .left)
 
 pub surveyed-spec : {M : Type 1} → statement M
 surveyed-spec =
@@ -74,7 +69,6 @@ surveyed-spec =
     returns
     survey-blocks-requires
     survey-domains-requires
-    pairs-sound-requires
     returns-2
     not-sound-requires-2
     returns-3)

@@ -1,4 +1,4 @@
--- A domain below 17 has its entry; past the last entry the row reads as 0.
+-- A domain below 18 has its entry; past the last entry the row reads as 0.
 use mathlib.Core.Path.{_≡_, sym}
 use native.Mathlib.Omega.{arith}
 use lib.ListN.{List·getD-eq-default, length, length-map}
@@ -20,7 +20,7 @@ returns c = search needs
 
 returns-2 : tie.Need-returns-2
 returns-2 c = let z = c .before in
-    let l : length (z .args .t1 .held) ≡ 17 = simp length-map at (z .good .0 .1 .1 .0 .1 .0 .1) in
+    let l : length (z .args .t1 .held) ≡ 18 = simp length-map at (z .good .0 .1 .1 .0 .1 .0 .1) in
     (sym (List·getD-eq-default (z .args .t1 .held) 0 (omega arith)), omega arith)
 
 pub held-by-spec : {M : Type 1} → statement M

@@ -15,8 +15,8 @@ use Rattle.model.specs.declared.command.Command.the-variants.{Pulse}
 use Rattle.geometry.specs.Questions.{firstNo}
 -- An unsound table, too many seconds, or every open block counted down.
 use borrow.Author.Needs.{needs}
-use Rattle.domains.proofs.countdown.pulse.Statement.{statement}
-use Rattle.domains.proofs.countdown.pulse.Tie as tie
+use Rattle.domains.proofs.pulsing.pulse.Statement.{statement}
+use Rattle.domains.proofs.pulsing.pulse.Tie as tie
 
 surveyed-requires : tie.Need-surveyed-requires
 surveyed-requires c κs = search needs
@@ -40,17 +40,17 @@ returns-2 c = λ store words bytes. let z = c .before .before .before .before .b
     (sym (c .before .before .before .before .surveyed .ensures .tested) ∙ not-false _ (c .before .before .if1 .left))
     (rw (le-leb 0 (z .seconds) (omega arith), lt-leb (z .seconds) 65535 (c .before .if2 .taken))))
 
-cast-t9 : tie.Need-cast-t9
-cast-t9 c = search needs
+cast-pulsed : tie.Need-cast-pulsed
+cast-pulsed c = search needs
 
-with-each-block-requires : tie.Need-with-each-block-requires
-with-each-block-requires c κs = let t = c .before .before .before .before .args .table in
+pulsed-requires : tie.Need-pulsed-requires
+pulsed-requires c κs = let t = c .before .before .before .before .args .table in
     limits (t .config) (apart t (sym (c .before .before .before .surveyed .ensures .tested) ∙ not-false _ (c .before .if1 .left)) .limits) .ranges .blocks .most
 
 returns-3 : tie.Need-returns-3
 unfolding questions effect firstNo
 returns-3 c = λ store words bytes. let z = c .before .before .before .before .before .args in
-    rw (c .with-each-block .ensures)
+    rw (c .pulsed .ensures)
     (table-call (drive (z .table) store) (Pulse (z .seconds)) words bytes [] Done _
     (sym (c .before .before .before .before .surveyed .ensures .tested) ∙ not-false _ (c .before .before .if1 .left))
     (rw (le-leb 0 (z .seconds) (omega arith), le-leb (z .seconds) 65535 (c .before .if2 .left)))
@@ -65,6 +65,6 @@ pulse-spec =
     returns
     refused-requires-2
     returns-2
-    cast-t9
-    with-each-block-requires
+    cast-pulsed
+    pulsed-requires
     returns-3)

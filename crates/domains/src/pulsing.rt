@@ -1,12 +1,11 @@
 // Pulse: the seconds of every open block count down.
+use countdown::pulsed;
 use model::Answer;
 use model::Refusal;
 use model::Table;
 use tables::Served;
-use tables::Sweep;
 use tables::refused;
 use tables::surveyed;
-use tables::with_each_block;
 ghost use mathlib.Core.List.{List};
 ghost use mathlib.Core.Path.{_≡_};
 ghost use Prim.Native.Nat.{ℕ};
@@ -27,6 +26,6 @@ pub fn pulse(table: Table, seconds: u64) -> Served
     }
     Served {
         answer: Answer::Done,
-        table: with_each_block(table, Sweep::Counting(seconds as u32)),
+        table: pulsed(table, seconds as u32),
     }
 }

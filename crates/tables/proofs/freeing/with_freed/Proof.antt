@@ -3,17 +3,17 @@ use Prim.Native.Nat.{_-_, _≤_}
 use mathlib.Core.Path.{_≡_, refl, ap, _∙_}
 use native.Mathlib.Omega.{arith}
 use lib.ListN.{length, length-map}
-use Rattle.tables.specs.Changes.{swept}
+use Rattle.rules.specs.Domains.{freedIfHeld}
 use Rattle.tables.proofs.Changed.{change-more, changedTo}
 use Rattle.rules.specs.Drive.{clearBlock, withBlocks}
-use Rattle.tables.proofs.sweep.with_each_block.Statement.{statement}
-use Rattle.tables.proofs.sweep.with_each_block.Tie as tie
+use Rattle.tables.proofs.freeing.with_freed.Statement.{statement}
+use Rattle.tables.proofs.freeing.with_freed.Tie as tie
 
 abbrev Inv-loop : tie.InvT-loop
-Inv-loop sweep blocks changed₀ n₀ changed n = (n ≤ blocks) × (changed ≡ withBlocks (changedTo (swept sweep) n (changed₀ .blocks)) changed₀)
+Inv-loop domain blocks changed₀ n₀ changed n = (n ≤ blocks) × (changed ≡ withBlocks (changedTo (freedIfHeld domain) n (changed₀ .blocks)) changed₀)
 
 abbrev μ-loop : tie.MeasureT-loop
-μ-loop sweep blocks changed₀ n₀ changed n = blocks - n
+μ-loop domain blocks changed₀ n₀ changed n = blocks - n
 
 loop-holds : tie.Need-loop-holds Inv-loop μ-loop
 loop-holds c = (omega arith, refl)
@@ -24,8 +24,8 @@ mul-block c = omega arith
 element-copy-out-block : tie.Need-element-copy-out-block Inv-loop μ-loop
 element-copy-out-block c = omega arith
 
-swept-requires : tie.Need-swept-requires Inv-loop μ-loop
-swept-requires c κs = tt
+freed-if-held-requires : tie.Need-freed-if-held-requires Inv-loop μ-loop
+freed-if-held-requires c κs = tt
 
 mul-next : tie.Need-mul-next Inv-loop μ-loop
 mul-next c = omega arith
@@ -45,15 +45,15 @@ loop-again c =
     let l = c .before .before .before .loop in
     let long : length (z .args .table .blocks) ≡ 256 = simp length-map at (z .good .0 .1 .1 .1 .1 .0 .1 .0 .1) in (
       omega arith,
-      rw (c .swept .ensures, l .inv .1)
-          (ap (λ bs. withBlocks bs (z .args .table)) (change-more (swept (z .args .sweep)) (l .n) (z .args .table .blocks) clearBlock (omega arith))),
+      rw (c .freed-if-held .ensures, l .inv .1)
+          (ap (λ bs. withBlocks bs (z .args .table)) (change-more (freedIfHeld (z .args .domain)) (l .n) (z .args .table .blocks) clearBlock (omega arith))),
     )
 
 returns : tie.Need-returns Inv-loop μ-loop
 returns c = let l = c .before .loop in let e : l .n ≡ c .before .before .args .table .config .blocks = omega arith in l .inv .1 ∙ rw e
 
-pub with-each-block-spec : {M : Type 1} → statement M
-with-each-block-spec =
+pub with-freed-spec : {M : Type 1} → statement M
+with-freed-spec =
     tie.close
     (tie.spec
     Inv-loop
@@ -61,7 +61,7 @@ with-each-block-spec =
     loop-holds
     mul-block
     element-copy-out-block
-    swept-requires
+    freed-if-held-requires
     mul-next
     element-set-from-next
     add-n
