@@ -1,25 +1,14 @@
 -- Fields that are filled in one behind the other.
-use Prim.Native.Nat.{ℕ, zero, suc, _+_, _≤_}
-use mathlib.Core.List.{List, [], _∷_, _++_, append-assoc}
+use Prim.Native.Nat.{ℕ, _+_, _≤_}
+use mathlib.Core.List.{List, _++_}
 use mathlib.Core.Path.{_≡_, sym, ap, _∙_}
-use native.Mathlib.Nat.{suc-add, zero-add}
 use native.Mathlib.Omega.{arith}
 use lib.ListN.{drop, length, length-append, take, take-append-drop}
-use lib.Seq.{drop-append-seam, drop-drop, length-take-le, take-append-seam}
+use lib.Seq.{length-take-le}
 use Rattle.geometry.specs.Bytes.{littleEndian}
 use Rattle.buffers.proofs.Rows.{length-bytes}
+use Rattle.rules.proofs.Drive.{fill-then}
 use Rattle.rules.specs.Drive.{overwritten}
-
--- Two rows that are filled in one behind the other are filled in as one.
-pub fill-then : (at : ℕ) (new more row : List ℕ) → at ≤ length row
-    → overwritten (at + length new) more (overwritten at new row) ≡ overwritten at (new ++ more) row
-unfolding overwritten
-fill-then zero new more row l =
-    rw (zero-add, take-append-seam new (drop (length new) row), drop-append-seam new (drop (length new) row), length-append, drop-drop)
-    (sym (append-assoc new more (drop (length new + length more) row)))
-fill-then (suc at) new more [] l = absurd (omega (arith, l))
-fill-then (suc at) new more (y ∷ row) l =
-    rw (suc-add at (length new)) (ap (λ (r : List ℕ). y ∷ r) (fill-then at new more row (omega (arith, l))))
 
 -- Bytes in which a row of k bytes was filled in.
 pub record Filled (at k : ℕ) (row first bytes : List ℕ) : Type 0 where

@@ -8,7 +8,8 @@ use native.Mathlib.Numerals.{add-one}
 use native.Mathlib.Omega.{arith}
 use lib.ListN.{length, length-append}
 use Rattle.geometry.specs.Bytes.{littleEndian}
-use Rattle.log_pages.proofs.Filling.{Filled, fill-then}
+use Rattle.log_pages.proofs.Filling.{Filled}
+use Rattle.rules.proofs.Drive.{fill-then}
 use Rattle.log_pages.specs.LogPages.{descriptorOf, isListed, listedBytes, markOf}
 use Rattle.model.specs.declared.block.Block.{Block}
 use Rattle.model.specs.declared.command.Command.the-variants.{List as Listing}

@@ -1,10 +1,11 @@
 -- What is found in a drive in which something was replaced.
-use Prim.Native.Nat.{ℕ, zero, suc, _-_, _<_}
-use mathlib.Core.List.{List, [], _∷_, _++_, map}
-use mathlib.Core.Path.{_≡_, refl, sym}
+use Prim.Native.Nat.{ℕ, zero, suc, _+_, _-_, _<_, _≤_}
+use mathlib.Core.List.{List, [], _∷_, _++_, append-assoc, map}
+use mathlib.Core.Path.{_≡_, refl, sym, ap}
+use native.Mathlib.Nat.{suc-add, zero-add}
 use native.Mathlib.Omega.{arith}
-use lib.ListN.{drop, getD, replicate, set, take}
-use lib.Seq.{getD-set-other}
+use lib.ListN.{drop, getD, length, length-append, replicate, set, take}
+use lib.Seq.{drop-append-seam, drop-drop, getD-set-other, take-append-seam}
 use Rattle.model.specs.declared.block.Block.{Block}
 use Rattle.model.specs.declared.table.Domain.{Domain}
 use Rattle.model.specs.declared.table.Table.{Table}
@@ -72,3 +73,14 @@ domain-other t d e r p q ne = getD-set-other (t .domains) (d - 1) (e - 1) r clea
 pub overwritten-nothing : (row : List ℕ) → overwritten 0 [] row ≡ row
 unfolding overwritten
 overwritten-nothing row = refl
+
+-- Two rows that are filled in one behind the other are filled in as one.
+pub fill-then : (at : ℕ) (new more row : List ℕ) → at ≤ length row
+    → overwritten (at + length new) more (overwritten at new row) ≡ overwritten at (new ++ more) row
+unfolding overwritten
+fill-then zero new more row l =
+    rw (zero-add, take-append-seam new (drop (length new) row), drop-append-seam new (drop (length new) row), length-append, drop-drop)
+    (sym (append-assoc new more (drop (length new + length more) row)))
+fill-then (suc at) new more [] l = absurd (omega (arith, l))
+fill-then (suc at) new more (y ∷ row) l =
+    rw (suc-add at (length new)) (ap (λ (r : List ℕ). y ∷ r) (fill-then at new more row (omega (arith, l))))

@@ -1,0 +1,678 @@
+//! Sends random commands to the proved library and to the manager in Rust, on sound and on hostile
+//! tables, and compares answers, tables, stores and outputs after every one.
+//!
+//! compare [COMMANDS] [SEED]
+//!
+//! Exit status: 0 if all agree, 1 at the first difference or if something was never reached, 2 if
+//! the library is missing or an argument is no number.
+
+#![forbid(unsafe_code)]
+#![cfg_attr(not(trial), allow(dead_code))]
+
+use bench::flat::{
+    answer_number, command_words, fill_row, from_row, word_name, COMMAND_WORDS, KINDS, KIND_NAMES,
+    TABLE_WORDS,
+};
+use bench::generate;
+use bench::manager::{Command, Config, Domain, Listed, State, Table, BLOCKS};
+use bench::random::Random;
+use std::fmt::Write;
+use std::process::ExitCode;
+
+const DEFAULT_COMMANDS: u64 = 2_000_000;
+const DEFAULT_SEED: u64 = 1;
+const REFUSALS: usize = 16;
+/// Beyond what is ever lent there is some more, which must stay as it is.
+const SPARE: usize = 8;
+const MOST_WORDS: usize = 300;
+const MOST_BYTES: usize = 8 * (BLOCKS + 2);
+
+#[cfg(not(trial))]
+fn main() -> ExitCode {
+    eprintln!("compare: built without the library: set TRIAL_LIB to the folder of libtrial.a");
+    ExitCode::from(2)
+}
+
+#[cfg(trial)]
+fn main() -> ExitCode {
+    let arguments: Vec<String> = std::env::args().skip(1).collect();
+    match numbers(&arguments) {
+        Some([commands, seed]) => compare(Library, commands, seed),
+        None => {
+            eprintln!("compare [COMMANDS] [SEED]");
+            ExitCode::from(2)
+        }
+    }
+}
+
+/// The number of commands and the seed.
+fn numbers(arguments: &[String]) -> Option<[u64; 2]> {
+    let mut numbers = [DEFAULT_COMMANDS, DEFAULT_SEED];
+    for (place, argument) in arguments.iter().enumerate() {
+        *numbers.get_mut(place)? = argument.parse().ok()?;
+    }
+    Some(numbers)
+}
+
+fn compare(other: impl Other, commands: u64, seed: u64) -> ExitCode {
+    println!("{commands} commands, seed {seed}");
+    let mut trial = Trial::new(other, seed);
+    if let Err(difference) = trial.run(commands) {
+        println!("{difference}");
+        return ExitCode::from(1);
+    }
+    print!("{}", trial.counts.table());
+    let missing = trial.counts.missing();
+    if missing.is_empty() {
+        println!("all agree; every kind succeeded, and met every refusal that it can meet");
+    } else {
+        println!("all agree, but never reached: {}", missing.join("; "));
+        if commands >= DEFAULT_COMMANDS {
+            return ExitCode::from(1);
+        }
+    }
+    ExitCode::SUCCESS
+}
+
+/// The side that the manager in Rust is compared with.
+trait Other {
+    fn start(&mut self, config: &Config, row: &mut [u64]) -> u64;
+
+    fn serve(
+        &mut self,
+        command: &[u64; COMMAND_WORDS],
+        row: &mut [u64],
+        store: &mut [u64],
+        words: &mut [u64],
+        bytes: &mut [u8],
+    ) -> u64;
+}
+
+#[cfg(trial)]
+struct Library;
+
+#[cfg(trial)]
+impl Other for Library {
+    fn start(&mut self, config: &Config, row: &mut [u64]) -> u64 {
+        bench::rattle::start(config, row)
+    }
+
+    fn serve(
+        &mut self,
+        command: &[u64; COMMAND_WORDS],
+        row: &mut [u64],
+        store: &mut [u64],
+        words: &mut [u64],
+        bytes: &mut [u8],
+    ) -> u64 {
+        bench::rattle::serve(command, row, store, words, bytes)
+    }
+}
+
+/// How often each kind got which answer.
+#[derive(Default)]
+struct Counts {
+    /// For Start, behind the kinds of command, and for each of these: successes, and then the
+    /// refusals by number.
+    answers: [[u64; REFUSALS + 1]; KINDS + 1],
+    commands: u64,
+    unsound: u64,
+    damaged: u64,
+    planted: u64,
+    /// Drives that were started, by their number of blocks.
+    drives: [u64; SIZES.len()],
+}
+
+/// The classes of drives in the report, each up to so many blocks.
+const SIZES: [u64; 5] = [1, 8, 32, 128, 256];
+
+const START: usize = KINDS;
+
+/// The refusals that a kind can meet.
+fn reachable(kind: usize) -> &'static [usize] {
+    match kind {
+        0 | 1 => &[2, 4, 5, 6, 14],
+        2 => &[2, 4, 5],
+        3 => &[2, 3, 4, 5, 6, 9, 10, 11, 12, 13, 14],
+        4 | 5 => &[2, 4, 5, 6, 9],
+        6 => &[2, 3, 4, 5, 6, 7, 8, 11, 12, 13, 14],
+        7 => &[2, 3, 4, 5, 6, 7, 8, 9, 10, 15],
+        8 => &[2, 3, 4, 5, 6, 7, 8, 9, 15, 16],
+        9 => &[2, 4, 5, 6, 7, 9],
+        10 => &[2, 4, 5, 7],
+        11 => &[2, 6],
+        _ => &[1],
+    }
+}
+
+fn kind_name(kind: usize) -> &'static str {
+    KIND_NAMES.get(kind).copied().unwrap_or("Start")
+}
+
+impl Counts {
+    fn count(&mut self, kind: usize, answer: u64) {
+        let class = if (1..=REFUSALS as u64).contains(&answer) { answer as usize } else { 0 };
+        self.answers[kind][class] += 1;
+        if kind != START {
+            self.commands += 1;
+            self.unsound += u64::from(class == 2);
+        }
+    }
+
+    fn table(&self) -> String {
+        let mut text = format!("{:18} {:>8}", "", "success");
+        for number in 1..=REFUSALS {
+            let _ = write!(text, " {number:>7}");
+        }
+        for (kind, answers) in self.answers.iter().enumerate() {
+            let _ = write!(text, "\n{:18} {:8}", kind_name(kind), answers[0]);
+            for &count in &answers[1..] {
+                let shown = if count == 0 { "-".into() } else { count.to_string() };
+                let _ = write!(text, " {shown:>7}");
+            }
+        }
+        let _ = write!(text, "\n{:18} {:8}", "all", self.answers.iter().map(|a| a[0]).sum::<u64>());
+        for number in 1..=REFUSALS {
+            let _ = write!(text, " {:7}", self.answers.iter().map(|a| a[number]).sum::<u64>());
+        }
+        let _ = writeln!(
+            text,
+            "\n{} commands: {} on sound tables, {} on unsound ones; {} of all on damaged copies",
+            self.commands,
+            self.commands - self.unsound,
+            self.unsound,
+            self.damaged
+        );
+        let _ = write!(text, "{} sound tables planted; drives started:", self.planted);
+        for (most, count) in SIZES.iter().zip(self.drives) {
+            let _ = write!(text, " S up to {most}: {count};");
+        }
+        let _ = writeln!(text, " refused: {}", self.answers[START][1]);
+        text
+    }
+
+    /// What a run of the default size has to reach, and this one has not; and refusals that no
+    /// kind should meet.
+    fn missing(&self) -> Vec<String> {
+        let mut missing = Vec::new();
+        for (kind, answers) in self.answers.iter().enumerate() {
+            for (class, &count) in answers.iter().enumerate() {
+                let expected = class == 0 || reachable(kind).contains(&class);
+                let met = if class == 0 { "success".into() } else { format!("refusal {class}") };
+                match (expected, count) {
+                    (true, 0) => missing.push(format!("{}: {met}", kind_name(kind))),
+                    (false, 1..) => {
+                        missing.push(format!("{}: {met} is not one it can meet", kind_name(kind)))
+                    }
+                    _ => {}
+                }
+            }
+        }
+        missing
+    }
+}
+
+/// What both sides are lent.
+#[derive(Clone, Debug, Default)]
+struct Buffers {
+    store: Vec<u64>,
+    words: Vec<u64>,
+    bytes: Vec<u8>,
+}
+
+/// How much of the buffers is lent.
+#[derive(Clone, Copy, Debug)]
+struct Lent {
+    store: usize,
+    words: usize,
+    bytes: usize,
+}
+
+/// A drive on both sides.
+struct Trial<O> {
+    other: O,
+    seed: u64,
+    random: Random,
+    counts: Counts,
+    table: Table,
+    row: Vec<u64>,
+    mine: Buffers,
+    others: Buffers,
+    /// The row of `table`, and the row before the command.
+    wanted: Vec<u64>,
+    before: Vec<u64>,
+}
+
+impl<O: Other> Trial<O> {
+    fn new(other: O, seed: u64) -> Trial<O> {
+        let buffers = Buffers {
+            store: Vec::new(),
+            words: vec![0; MOST_WORDS + SPARE],
+            bytes: vec![0; MOST_BYTES + SPARE],
+        };
+        Trial {
+            other,
+            seed,
+            random: Random::new(seed),
+            counts: Counts::default(),
+            table: Table::zeros(),
+            row: vec![0; TABLE_WORDS],
+            mine: buffers.clone(),
+            others: buffers,
+            wanted: vec![0; TABLE_WORDS],
+            before: vec![0; TABLE_WORDS],
+        }
+    }
+
+    /// Drive after drive, until so many commands have been served.
+    fn run(&mut self, commands: u64) -> Result<(), String> {
+        while self.counts.commands < commands {
+            let wrong = self.random.chance(6);
+            let config = if wrong {
+                generate::wrong_config(&mut self.random)
+            } else {
+                generate::config(&mut self.random)
+            };
+            self.start(config)?;
+            let length = if wrong { 3 } else { self.random.pick(&[60, 200, 500, 1_000, 3_000]) };
+            let end = commands.min(self.counts.commands + length);
+            while self.counts.commands < end {
+                match self.random.below(100) {
+                    0 if !wrong => self.plant(),
+                    1..=9 => self.serve_damaged()?,
+                    _ => self.serve()?,
+                }
+            }
+        }
+        Ok(())
+    }
+
+    fn start(&mut self, config: Config) -> Result<(), String> {
+        self.random.fill_words(&mut self.row);
+        let (answer, table) = Table::start(config);
+        let number = self.other.start(&config, &mut self.row);
+        self.table = table;
+        self.counts.count(START, answer_number(answer));
+        if let (0, Some(class)) = (number, SIZES.iter().position(|&most| config.blocks <= most)) {
+            self.counts.drives[class] += 1;
+        }
+        fill_row(&self.table, &mut self.wanted);
+        if number != answer_number(answer) || self.row != self.wanted {
+            let mut text = format!("difference at a start, seed {}: {config:?}\n", self.seed);
+            let _ = writeln!(text, "Rust answers {}, the other {number}", answer_number(answer));
+            list_differing(&mut text, &self.wanted, &self.row, word_name);
+            return Err(text);
+        }
+        let entries = if number == 0 { config.store_entries() as usize } else { 1_000 };
+        self.mine.store.resize(entries + SPARE, 0);
+        self.random.fill_words(&mut self.mine.store);
+        self.others.store.clone_from(&self.mine.store);
+        Ok(())
+    }
+
+    /// Goes on with a table that is sound but extreme.
+    fn plant(&mut self) {
+        generate::plant(&mut self.random, &mut self.table);
+        assert!(self.table.is_sound(), "a planted table is sound");
+        fill_row(&self.table, &mut self.row);
+        self.counts.planted += 1;
+    }
+
+    /// Some commands on a damaged copy of the table; the store goes on with what they leave.
+    fn serve_damaged(&mut self) -> Result<(), String> {
+        let table = self.table.clone();
+        generate::damage(&mut self.random, &mut self.table);
+        fill_row(&self.table, &mut self.row);
+        for _ in 0..self.random.between(1, 3) {
+            self.serve()?;
+            self.counts.damaged += 1;
+        }
+        self.table = table;
+        fill_row(&self.table, &mut self.row);
+        Ok(())
+    }
+
+    /// A command on both sides.
+    fn serve(&mut self) -> Result<(), String> {
+        let command = generate::command(&mut self.random, &self.table, &self.mine.store);
+        let lent = self.lend(&command);
+        self.random.fill_words(&mut self.mine.words);
+        self.random.fill_bytes(&mut self.mine.bytes);
+        self.others.words.copy_from_slice(&self.mine.words);
+        self.others.bytes.copy_from_slice(&self.mine.bytes);
+        self.before.copy_from_slice(&self.row);
+        let words = command_words(&command);
+        let Buffers { store, words: filled, bytes } = &mut self.mine;
+        let answer = self.table.serve(
+            command,
+            &mut store[..lent.store],
+            &mut filled[..lent.words],
+            &mut bytes[..lent.bytes],
+        );
+        let Buffers { store, words: filled, bytes } = &mut self.others;
+        let number = self.other.serve(
+            &words,
+            &mut self.row,
+            &mut store[..lent.store],
+            &mut filled[..lent.words],
+            &mut bytes[..lent.bytes],
+        );
+        self.counts.count(words[0] as usize, answer_number(answer));
+        fill_row(&self.table, &mut self.wanted);
+        let agree = number == answer_number(answer)
+            && self.row == self.wanted
+            && self.mine.store == self.others.store
+            && self.mine.words == self.others.words
+            && self.mine.bytes == self.others.bytes;
+        if agree {
+            Ok(())
+        } else {
+            Err(self.difference(&command, lent, answer_number(answer), number))
+        }
+    }
+
+    /// Mostly buffers of the right length; sometimes shorter or longer ones, or none.
+    fn lend(&mut self, command: &Command) -> Lent {
+        let random = &mut self.random;
+        let all = self.mine.store.len();
+        let config = &self.table.config;
+        let right = if config.within_limits() { config.store_entries() as usize } else { all };
+        let store = match random.below(100) {
+            0 => 0,
+            1 => right.saturating_sub(1),
+            2 => right.saturating_add(1),
+            3 => random.between(0, all as u64) as usize,
+            _ => right,
+        };
+        let (words, bytes) = self.filled(command);
+        Lent {
+            store: store.min(all),
+            words: output_length(&mut self.random, words, MOST_WORDS),
+            bytes: output_length(&mut self.random, bytes, MOST_BYTES),
+        }
+    }
+
+    /// How many words and bytes the command's success fills.
+    fn filled(&self, command: &Command) -> (usize, usize) {
+        match *command {
+            Command::WriteByPlacement { count, .. }
+            | Command::WriteByBlock { count, .. }
+            | Command::Read { count, .. } => (count.min(256) as usize, 0),
+            Command::Page { .. } => (0, 256),
+            Command::List { domain, listed } => {
+                let is_listed = |state| match listed {
+                    Listed::Open => matches!(state, State::Open(_)),
+                    Listed::Closed => matches!(state, State::Closed(_)),
+                };
+                let present = self.table.config.blocks.min(BLOCKS as u64) as usize;
+                let blocks = self.table.blocks[..present].iter();
+                let of_domain = blocks.filter(|block| u64::from(block.holder) == domain);
+                (0, 8 * (of_domain.filter(|block| is_listed(block.state)).count() + 1))
+            }
+            _ => (0, 0),
+        }
+    }
+
+    fn difference(&self, command: &Command, lent: Lent, mine: u64, number: u64) -> String {
+        let mut text = format!(
+            "difference at command {}, seed {}: {command:?}\n",
+            self.counts.commands, self.seed
+        );
+        let _ = writeln!(text, "as words {:?}; {lent:?}", command_words(command));
+        let _ = writeln!(text, "Rust answers {mine}, the other {number}");
+        list_differing(&mut text, &self.wanted, &self.row, word_name);
+        let store = |place| format!("store {place}");
+        list_differing(&mut text, &self.mine.store, &self.others.store, store);
+        let words = |place| format!("words {place}");
+        list_differing(&mut text, &self.mine.words, &self.others.words, words);
+        let bytes = |place| format!("bytes {place}");
+        list_differing(&mut text, &self.mine.bytes, &self.others.bytes, bytes);
+        let _ = writeln!(text, "the table before:");
+        show_table(&mut text, &from_row(&self.before));
+        text
+    }
+}
+
+fn output_length(random: &mut Random, filled: usize, most: usize) -> usize {
+    match random.below(40) {
+        0 => 0,
+        1 | 2 => filled.saturating_sub(1),
+        3..=5 => filled,
+        6 => filled + 1,
+        7 => random.between(0, most as u64) as usize,
+        _ => most,
+    }
+}
+
+/// Tells the first places where two rows differ, and how many there are.
+fn list_differing<T: PartialEq + std::fmt::Debug>(
+    text: &mut String,
+    mine: &[T],
+    others: &[T],
+    name: impl Fn(usize) -> String,
+) {
+    let differing = || mine.iter().zip(others).enumerate().filter(|(_, (a, b))| a != b);
+    for (place, (a, b)) in differing().take(10) {
+        let _ = writeln!(text, "  {}: Rust {a:?}, the other {b:?}", name(place));
+    }
+    let count = differing().count();
+    if count > 10 {
+        let _ = writeln!(text, "  and {} more", count - 10);
+    }
+}
+
+/// A table without the records that say nothing.
+fn show_table(text: &mut String, table: &Table) {
+    let _ = writeln!(text, "  {:?}", table.config);
+    for (index, domain) in table.domains.iter().enumerate() {
+        if *domain != Domain::default() {
+            let _ = writeln!(text, "  domain {}: {domain:?}", index + 1);
+        }
+    }
+    for (number, block) in table.blocks.iter().enumerate() {
+        if *block != Default::default() {
+            let beyond = if number as u64 >= table.config.blocks { " (beyond S)" } else { "" };
+            let _ = writeln!(text, "  block {number}{beyond}: {block:?}");
+        }
+    }
+}
+
+#[cfg(test)]
+mod tests {
+    use super::*;
+    use bench::flat::command_of;
+    use bench::manager::{Answer, ALL_ONES};
+
+    /// The manager in Rust as the other side, with something done to what it leaves.
+    struct Impostor<F>(F);
+
+    /// What an impostor can change after a command.
+    struct Left<'a> {
+        command: Command,
+        before: &'a Table,
+        answer: &'a mut Answer,
+        table: &'a mut Table,
+        store: &'a mut [u64],
+        words: &'a mut [u64],
+        bytes: &'a mut [u8],
+    }
+
+    impl<F: FnMut(Left)> Other for Impostor<F> {
+        fn start(&mut self, config: &Config, row: &mut [u64]) -> u64 {
+            let (answer, table) = Table::start(*config);
+            fill_row(&table, row);
+            answer_number(answer)
+        }
+
+        fn serve(
+            &mut self,
+            command: &[u64; COMMAND_WORDS],
+            row: &mut [u64],
+            store: &mut [u64],
+            words: &mut [u64],
+            bytes: &mut [u8],
+        ) -> u64 {
+            let command = command_of(command).expect("a command");
+            let before = from_row(row);
+            let mut table = before.clone();
+            let mut answer = table.serve(command, store, words, bytes);
+            (self.0)(Left {
+                command,
+                before: &before,
+                answer: &mut answer,
+                table: &mut table,
+                store,
+                words,
+                bytes,
+            });
+            fill_row(&table, row);
+            answer_number(answer)
+        }
+    }
+
+    fn is_found(impostor: impl FnMut(Left)) -> bool {
+        Trial::new(Impostor(impostor), 3).run(20_000).is_err()
+    }
+
+    #[test]
+    fn the_manager_agrees_with_itself_and_meets_every_answer() {
+        let mut trial = Trial::new(Impostor(|_: Left| ()), 5);
+        assert_eq!(trial.run(60_000), Ok(()));
+        assert_eq!(trial.counts.missing(), Vec::<String>::new());
+        assert_eq!(trial.counts.commands, 60_000);
+    }
+
+    #[test]
+    fn a_run_is_the_same_for_the_same_seed() {
+        let table = |seed| {
+            let mut trial = Trial::new(Impostor(|_: Left| ()), seed);
+            trial.run(2_000).expect("equal sides");
+            trial.counts.table()
+        };
+        assert_eq!(table(9), table(9));
+        assert_ne!(table(9), table(10));
+    }
+
+    #[test]
+    fn impostors_of_document_01_are_found() {
+        // A write that stores its first ADU and merely lists addresses for the rest.
+        assert!(is_found(|left| {
+            if let Command::WriteByBlock { block, count, .. } = left.command {
+                if *left.answer == Answer::Done && count > 1 {
+                    let capacity = left.table.config.adus_in_block();
+                    let first = block * capacity + left.before.blocks[block as usize].written;
+                    left.store[first as usize + 1..][..count as usize - 1].fill(ALL_ONES);
+                }
+            }
+        }));
+        // One that says 14 with the table unread.
+        assert!(is_found(|left| {
+            if matches!(left.command, Command::Create { .. }) && *left.answer == Answer::Done {
+                *left.answer = Answer::Refused(14);
+                *left.table = left.before.clone();
+            }
+        }));
+        // One that answers Close and moves no block.
+        assert!(is_found(|left| {
+            if matches!(left.command, Command::Close { .. }) {
+                *left.table = left.before.clone();
+            }
+        }));
+        // One that hands out block 0 always.
+        assert!(is_found(|left| {
+            if matches!(left.command, Command::Erase { .. }) {
+                if let Answer::Block(number) = left.answer {
+                    *number = 0;
+                }
+            }
+        }));
+        // One that refuses all.
+        assert!(is_found(|left| {
+            *left.answer = Answer::Refused(2);
+            *left.table = left.before.clone();
+        }));
+        // A Page with an invented written count.
+        assert!(is_found(|left| {
+            if matches!(left.command, Command::Page { .. }) && *left.answer == Answer::Done {
+                left.bytes[20] ^= 1;
+            }
+        }));
+    }
+
+    #[test]
+    fn small_deviations_are_found() {
+        // A write beyond what success fills.
+        assert!(is_found(|left| {
+            if let Command::Read { count, .. } = left.command {
+                if *left.answer == Answer::Done && left.words.len() as u64 > count {
+                    left.words[count as usize] = 0;
+                }
+            }
+        }));
+        // A refused write that leaves an address.
+        assert!(is_found(|left| {
+            let write = matches!(left.command, Command::WriteByBlock { .. });
+            if write && *left.answer == Answer::Refused(15) {
+                left.words[0] = 1;
+            }
+        }));
+        // A record at S or above that is changed.
+        assert!(is_found(|left| {
+            if matches!(left.command, Command::Pulse { .. }) && left.table.config.blocks < 256 {
+                left.table.blocks[255].erases = 0;
+            }
+        }));
+        // An erase count that passes its end.
+        assert!(is_found(|left| {
+            if let (Command::Erase { .. }, Answer::Block(number)) = (left.command, &left.answer) {
+                let number = *number as usize;
+                left.table.blocks[number].erases =
+                    left.before.blocks[number].erases.wrapping_add(1);
+            }
+        }));
+        // Tables with two open blocks of a placement taken as sound.
+        assert!(is_found(|left| {
+            let mut mended = left.before.clone();
+            let present = mended.config.blocks.min(256) as usize;
+            let blocks = &mut mended.blocks[..present];
+            for number in 1..present {
+                let earlier = |other: &bench::manager::Block| {
+                    other.holder == blocks[number].holder && other.state == blocks[number].state
+                };
+                let placed =
+                    matches!(blocks[number].state, State::Open(bench::manager::Way::Placement(_)));
+                if placed && blocks[..number].iter().any(earlier) {
+                    blocks[number].state = State::Open(bench::manager::Way::Erase);
+                }
+            }
+            if *left.answer == Answer::Refused(2) && mended.is_sound() {
+                *left.answer = Answer::Done;
+            }
+        }));
+    }
+
+    #[test]
+    fn arguments_are_numbers() {
+        let read = |words: &[&str]| numbers(&words.iter().map(|&w| w.into()).collect::<Vec<_>>());
+        assert_eq!(read(&[]), Some([2_000_000, 1]));
+        assert_eq!(read(&["5", "7"]), Some([5, 7]));
+        assert_eq!(read(&["5", "7", "9"]), None);
+        assert_eq!(read(&["five"]), None);
+    }
+
+    #[test]
+    fn a_run_that_reaches_too_little_fails() {
+        let same = || Impostor(|_: Left| ());
+        assert_eq!(compare(same(), 100, 1), ExitCode::SUCCESS);
+        assert!(!Counts::default().missing().is_empty());
+    }
+
+    #[test]
+    fn a_difference_is_told() {
+        let mut trial = Trial::new(Impostor(|left: Left| left.table.blocks[1].left += 1), 4);
+        let told = trial.run(1_000).expect_err("a difference");
+        for part in ["seed 4", "block 1: left: Rust", "Config { pages:", "as words ["] {
+            assert!(told.contains(part), "{told}");
+        }
+    }
+}

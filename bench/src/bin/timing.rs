@@ -1,0 +1,620 @@
+//! Measures the proved library against the manager in Rust, command by command.
+//!
+//! timing [--row NAME] [--blocks S] [--list]
+//!
+//! Every row is a list of commands that can be repeated for ever on the drive that it begins with.
+//! Both sides run it on equal copies, in turns; after each turn their answers' checksums, tables,
+//! stores and outputs must agree. Exit status: 0, 1 at a difference, 2 if the library is missing
+//! or the arguments are not as above.
+
+#![forbid(unsafe_code)]
+#![cfg_attr(not(trial), allow(dead_code))]
+
+use bench::flat::{
+    answer_number, command_of, command_words, fill_row, from_row, to_row, COMMAND_WORDS,
+};
+use bench::manager::{Answer, Command, Config, Listed, State, Table, ALL_ONES, ANY_BLOCK};
+use std::hint::black_box;
+use std::process::ExitCode;
+use std::time::{Duration, Instant};
+
+const DRIVES: [u64; 4] = [8, 32, 128, 256];
+const TURNS: usize = 15;
+/// The quicker side is to take so long for a turn, unless the slower one took too long.
+const TURN: Duration = Duration::from_millis(10);
+const LONGEST_TURN: Duration = Duration::from_millis(40);
+/// A turn of one and of the other side before the rounds are known.
+const FIRST_ROUNDS: u64 = 2_000;
+
+const DOMAINS: u64 = 8;
+/// The domain that most rows are about; it holds block 0, which is full and Closed.
+const OWN: u64 = 1;
+/// A domain that does not exist.
+const NEW: u64 = 9;
+const PLACEMENTS: u64 = 8;
+/// A placement that has no open block.
+const IDLE: u64 = 7;
+/// The P/E count of all Free blocks but one, which is therefore chosen again and again.
+const WORN: u32 = 100_000_000;
+
+#[cfg(not(trial))]
+fn main() -> ExitCode {
+    eprintln!("timing: built without the library: set TRIAL_LIB to the folder of libtrial.a");
+    ExitCode::from(2)
+}
+
+#[cfg(trial)]
+fn main() -> ExitCode {
+    let arguments: Vec<String> = std::env::args().skip(1).collect();
+    let Some(choice) = Choice::read(&arguments) else {
+        eprintln!("timing [--row NAME] [--blocks S] [--list]");
+        return ExitCode::from(2);
+    };
+    let rows: Vec<Row> = all_rows().into_iter().filter(|row| choice.takes(row)).collect();
+    if rows.is_empty() {
+        eprintln!("timing: no such row; --list tells them all");
+        return ExitCode::from(2);
+    }
+    if choice.list {
+        for row in &rows {
+            println!("{:5} {}", row.blocks(), row.name);
+        }
+        return ExitCode::SUCCESS;
+    }
+    match measure_all(&mut Library, &rows, TURNS) {
+        Ok(times) => {
+            print_growth(&rows, &times);
+            ExitCode::SUCCESS
+        }
+        Err(difference) => {
+            println!("{difference}");
+            ExitCode::from(1)
+        }
+    }
+}
+
+/// Which rows are measured.
+#[derive(Default, PartialEq, Debug)]
+struct Choice {
+    row: Option<String>,
+    blocks: Option<u64>,
+    list: bool,
+}
+
+impl Choice {
+    fn read(arguments: &[String]) -> Option<Choice> {
+        let mut choice = Choice::default();
+        let mut arguments = arguments.iter();
+        while let Some(argument) = arguments.next() {
+            match argument.as_str() {
+                "--row" => choice.row = Some(arguments.next()?.clone()),
+                "--blocks" => choice.blocks = Some(arguments.next()?.parse().ok()?),
+                "--list" => choice.list = true,
+                _ => return None,
+            }
+        }
+        Some(choice)
+    }
+
+    fn takes(&self, row: &Row) -> bool {
+        self.row.as_ref().is_none_or(|name| *name == row.name)
+            && self.blocks.is_none_or(|blocks| blocks == row.blocks())
+    }
+}
+
+/// What a side works on.
+#[derive(Clone, PartialEq)]
+struct Drive {
+    table: Vec<u64>,
+    store: Vec<u64>,
+    words: Vec<u64>,
+    bytes: Vec<u8>,
+}
+
+/// A side: serves so many commands, the list over and over, and gives the checksum of the answers.
+trait Side {
+    fn run(&mut self, rounds: u64, commands: &[u64], drive: &mut Drive) -> u64;
+}
+
+#[cfg(trial)]
+struct Library;
+
+#[cfg(trial)]
+impl Side for Library {
+    fn run(&mut self, rounds: u64, commands: &[u64], drive: &mut Drive) -> u64 {
+        let Drive { table, store, words, bytes } = drive;
+        bench::rattle::run(rounds, commands, table, store, words, bytes)
+    }
+}
+
+struct Manager;
+
+impl Side for Manager {
+    #[inline(never)]
+    fn run(&mut self, rounds: u64, commands: &[u64], drive: &mut Drive) -> u64 {
+        let Drive { table: row, store, words, bytes } = drive;
+        let mut table = from_row(row);
+        let commands = commands.as_chunks::<COMMAND_WORDS>().0;
+        let (mut next, mut sum) = (0, 0);
+        for _ in 0..rounds {
+            let command = command_of(black_box(&commands[next])).expect("a command");
+            let answer = table.serve(command, store, words, bytes);
+            sum = (sum * 31 + answer_number(black_box(answer))) % (1 << 32);
+            next += 1;
+            if next == commands.len() {
+                next = 0;
+            }
+        }
+        fill_row(&table, row);
+        sum
+    }
+}
+
+/// A list of commands to measure, and the drive that it begins with.
+struct Row {
+    name: String,
+    drive: Drive,
+    commands: Vec<u64>,
+    /// The refusal that all commands meet, if they are to be refused.
+    refusal: Option<u8>,
+}
+
+impl Row {
+    fn blocks(&self) -> u64 {
+        self.drive.table[4]
+    }
+
+    /// Are all answers of the first rounds as they should be, of two lists at least?
+    fn is_as_said(&self) -> bool {
+        let mut drive = self.drive.clone();
+        let mut table = from_row(&drive.table);
+        let commands = self.commands.as_chunks::<COMMAND_WORDS>().0;
+        (0..2).all(|_| {
+            commands.iter().all(|words| {
+                let command = command_of(words).expect("a command");
+                let Drive { store, words, bytes, .. } = &mut drive;
+                match table.serve(command, store, words, bytes) {
+                    Answer::Refused(number) => self.refusal == Some(number),
+                    _ => self.refusal.is_none(),
+                }
+            })
+        })
+    }
+}
+
+// Drives and rows.
+
+/// A drive with 8 domains and blocks in all states, made by commands, and with some age planted.
+struct Busy {
+    table: Table,
+    store: Vec<u64>,
+    words: Vec<u64>,
+    bytes: Vec<u8>,
+}
+
+impl Busy {
+    fn new(config: Config) -> Busy {
+        let (answer, table) = Table::start(config);
+        assert_eq!(answer, Answer::Done);
+        let store = vec![0; config.store_entries() as usize];
+        let mut busy = Busy { table, store, words: vec![0; 256], bytes: vec![0; 8 * 257] };
+        for domain in 1..DOMAINS {
+            busy.create(domain, 0);
+        }
+        busy.fill_blocks();
+        // The last domain has an eighth of the drive reserved, and holds nothing.
+        busy.create(DOMAINS, config.blocks / 8 * config.planes_in_block());
+        busy.age();
+        assert!(busy.table.is_sound());
+        busy
+    }
+
+    fn serve(&mut self, command: Command) -> Answer {
+        let answer = self.table.serve(command, &mut self.store, &mut self.words, &mut self.bytes);
+        assert!(!matches!(answer, Answer::Refused(_)), "{command:?}: {answer:?}");
+        answer
+    }
+
+    /// A domain that may hold the whole drive.
+    fn create(&mut self, domain: u64, guarantee: u64) {
+        let config = self.table.config;
+        let quota = config.blocks * config.planes_in_block();
+        let (placements, limit) = (PLACEMENTS, 256);
+        self.serve(Command::Create { domain, guarantee, quota, placements, limit });
+    }
+
+    /// Of each 8 blocks 4 get Closed, 2 Open and 2 Free again, each pair in both ways.
+    fn fill_blocks(&mut self) {
+        let blocks = self.table.config.blocks;
+        for number in 0..blocks {
+            let group = number / 8;
+            let domain = |shift| (group + shift) % (DOMAINS - 1) + 1;
+            match number % 8 {
+                0 => self.erase_and_write(domain(0), number, None),
+                1 => self.write(domain(0), 0, None),
+                2 => {
+                    self.erase_and_write(domain(1), number, Some(40));
+                    self.serve(Command::Close { domain: domain(1), block: number });
+                }
+                3 => self.erase_and_write(domain(2), number, Some(50)),
+                4 => self.write(domain(0), 1 + group / (DOMAINS - 1), Some(60)),
+                5 => {
+                    self.write(domain(4), 0, Some(70));
+                    self.serve(Command::Close { domain: domain(4), block: number });
+                }
+                _ => self.erase_and_write(domain(5), number, Some(10)),
+            }
+            assert!(self.table.blocks[number as usize].state != State::Free);
+        }
+        for number in (0..blocks).filter(|number| number % 8 >= 6) {
+            let domain = self.table.blocks[number as usize].holder.into();
+            self.serve(Command::Free { domain, block: number });
+        }
+    }
+
+    fn erase_and_write(&mut self, domain: u64, block: u64, count: Option<u64>) {
+        self.serve(Command::Erase { domain, block });
+        let mut left = count.unwrap_or(self.table.config.adus_in_block());
+        while left > 0 {
+            let count = left.min(256);
+            let start = block << 20 | left;
+            self.serve(Command::WriteByBlock { domain, block, start, count });
+            left -= count;
+        }
+    }
+
+    fn write(&mut self, domain: u64, placement: u64, count: Option<u64>) {
+        let mut left = count.unwrap_or(self.table.config.adus_in_block());
+        while left > 0 {
+            let count = left.min(256);
+            self.serve(Command::WriteByPlacement { domain, placement, start: left << 20, count });
+            left -= count;
+        }
+    }
+
+    /// Serials with gaps, and P/E counts that differ; only the last block has been erased seldom.
+    fn age(&mut self) {
+        let blocks = self.table.config.blocks as usize;
+        for block in &mut self.table.blocks[..blocks] {
+            block.serial *= 37;
+            block.erases = WORN + block.serial * 7 % 100;
+        }
+        self.table.blocks[blocks - 1].erases = 0;
+        for domain in &mut self.table.domains {
+            domain.last *= 37;
+        }
+    }
+
+    /// The Free block that is chosen.
+    fn chosen(&self) -> u64 {
+        self.table.config.blocks - 1
+    }
+
+    fn row(&self, name: &str, commands: &[Command]) -> Row {
+        Row {
+            name: name.into(),
+            drive: Drive {
+                table: to_row(&self.table),
+                store: self.store.clone(),
+                words: self.words.clone(),
+                bytes: self.bytes.clone(),
+            },
+            commands: commands.iter().flat_map(command_words).collect(),
+            refusal: None,
+        }
+    }
+
+    fn refused(&self, name: &str, refusal: u8, commands: &[Command]) -> Row {
+        Row { refusal: Some(refusal), ..self.row(name, commands) }
+    }
+}
+
+fn shape(blocks: u64, dies: u64, adus: u64) -> Config {
+    Config { pages: 128, dies, planes: 1, adus, blocks, rated: 3_000, period: 65_535 }
+}
+
+fn all_rows() -> Vec<Row> {
+    let mut rows: Vec<Row> =
+        DRIVES.iter().flat_map(|&blocks| kinds(&Busy::new(shape(blocks, 1, 1)))).collect();
+    rows.extend(transfers(&Busy::new(shape(8, 1, 8))));
+    for (dies, adus) in [(1, 1), (8, 1), (8, 8)] {
+        let busy = Busy::new(shape(8, dies, adus));
+        let name = format!("Erase + Close, C {}", busy.table.config.adus_in_block());
+        rows.push(busy.row(&name, &erase_and_close()));
+    }
+    for row in &rows {
+        assert!(row.is_as_said(), "{} at S {} goes otherwise", row.name, row.blocks());
+    }
+    rows
+}
+
+fn erase_and_close() -> [Command; 2] {
+    [Command::Erase { domain: OWN, block: 0 }, Command::Close { domain: OWN, block: 0 }]
+}
+
+/// The rows that are measured at each S.
+fn kinds(busy: &Busy) -> Vec<Row> {
+    let config = busy.table.config;
+    let planes = config.blocks * config.planes_in_block();
+    let chosen = busy.chosen();
+    let create = Command::Create {
+        domain: NEW,
+        guarantee: config.planes_in_block(),
+        quota: 0,
+        placements: 2,
+        limit: 3,
+    };
+    let too_much =
+        Command::Create { domain: NEW, guarantee: planes, quota: 0, placements: 2, limit: 3 };
+    let delete = Command::Delete { domain: NEW };
+    let erase_any = |domain| Command::Erase { domain, block: ANY_BLOCK };
+    let free = Command::Free { domain: OWN, block: chosen };
+    let change = |quota| Command::ChangeCapacity { domain: OWN, guarantee: 0, quota };
+    let reads: Vec<Command> = (0..8).map(|i| busy.read(i * 16, 1)).collect();
+    let mismatch = Command::Read {
+        domain: OWN,
+        address: config.flash_address(OWN, 0, 0),
+        count: 1,
+        expected: busy.store[0] ^ 1,
+    };
+    let list = |listed| Command::List { domain: OWN, listed };
+    let pulse = |seconds| Command::Pulse { seconds };
+    let mut pulses = vec![pulse(0); 15];
+    pulses.push(pulse(1));
+    vec![
+        busy.row("Create + Delete", &[create, delete]),
+        busy.row("Create + Erase any + Delete", &[create, erase_any(NEW), delete]),
+        busy.row("Change Capacity", &[change(planes), change(planes / 2)]),
+        busy.row("Erase + Close", &erase_and_close()),
+        busy.row("Erase any + Free", &[erase_any(OWN), free]),
+        busy.row("Erase + Free", &[Command::Erase { domain: OWN, block: chosen }, free]),
+        busy.row("Close, Closed already", &[Command::Close { domain: OWN, block: 0 }]),
+        busy.row("Write 1 by placement, 128 times, + Free", &busy.writes(1)),
+        busy.row("Erase + Write 1 by block, 128 times", &busy.writes_by_block()),
+        busy.row("Read 1", &reads),
+        busy.row("Page", &[0, 1].map(|block| Command::Page { domain: OWN, block })),
+        busy.row("List open", &[list(Listed::Open)]),
+        busy.row("List closed", &[list(Listed::Closed)]),
+        busy.row("Pulse 0", &[pulse(0)]),
+        busy.row("Pulse 0, each 16th 1", &pulses),
+        busy.refused("Close, refused 9", 9, &[Command::Close { domain: OWN + 1, block: 0 }]),
+        busy.refused("Create, refused 14", 14, &[too_much]),
+        busy.refused("Read 1, refused 16", 16, &[mismatch]),
+    ]
+}
+
+/// Writes and reads of several numbers of ADUs, with C 1,024.
+fn transfers(busy: &Busy) -> Vec<Row> {
+    let counts = [1, 16, 64, 256];
+    let write = |count| {
+        busy.row(&format!("Write {count} by placement, + Free, C 1024"), &busy.writes(count))
+    };
+    let read = |count| busy.row(&format!("Read {count}, C 1024"), &[busy.read(100, count)]);
+    let read_any = |count| {
+        let Command::Read { domain, address, count, .. } = busy.read(100, count) else {
+            unreachable!()
+        };
+        let any = Command::Read { domain, address, count, expected: ALL_ONES };
+        busy.row(&format!("Read {count} expecting all ones, C 1024"), &[any])
+    };
+    counts.map(write).into_iter().chain(counts.map(read)).chain(counts.map(read_any)).collect()
+}
+
+impl Busy {
+    /// A read of block 0, in which user addresses count up by 256 ADUs at a time.
+    fn read(&self, offset: u64, count: u64) -> Command {
+        let offset = if offset % 256 + count > 256 { 0 } else { offset };
+        Command::Read {
+            domain: OWN,
+            address: self.table.config.flash_address(OWN, 0, offset),
+            count,
+            expected: self.store[offset as usize],
+        }
+    }
+
+    /// Writes that open the chosen block and fill it; then it is freed, and chosen again.
+    fn writes(&self, count: u64) -> Vec<Command> {
+        let times = self.table.config.adus_in_block() / count;
+        let write = |i: u64| Command::WriteByPlacement {
+            domain: OWN,
+            placement: IDLE,
+            start: i << 20,
+            count,
+        };
+        let free = Command::Free { domain: OWN, block: self.chosen() };
+        (0..times).map(write).chain([free]).collect()
+    }
+
+    /// Block 0 is erased again when it is full.
+    fn writes_by_block(&self) -> Vec<Command> {
+        let write = |i| Command::WriteByBlock { domain: OWN, block: 0, start: i << 20, count: 1 };
+        let erase = Command::Erase { domain: OWN, block: 0 };
+        [erase].into_iter().chain((0..self.table.config.adus_in_block()).map(write)).collect()
+    }
+}
+
+// Measuring.
+
+/// Nanoseconds per command.
+#[derive(Clone, Copy)]
+struct Times {
+    other: f64,
+    rust: f64,
+}
+
+/// A turn of one side: how long it takes, and the checksum.
+fn turn(side: &mut impl Side, rounds: u64, row: &Row, drive: &mut Drive) -> (Duration, u64) {
+    drive.clone_from(&row.drive);
+    let begin = Instant::now();
+    let sum = side.run(rounds, black_box(&row.commands), drive);
+    (begin.elapsed(), sum)
+}
+
+/// A turn of each side, which must agree.
+fn turns(
+    other: &mut impl Side,
+    rounds: u64,
+    row: &Row,
+    drives: &mut [Drive; 2],
+) -> Result<[Duration; 2], String> {
+    let (others, other_sum) = turn(other, rounds, row, &mut drives[0]);
+    let (rusts, rust_sum) = turn(&mut Manager, rounds, row, &mut drives[1]);
+    let [left, right] = drives;
+    let differing = [
+        (other_sum != rust_sum, "answers"),
+        (left.table != right.table, "tables"),
+        (left.store != right.store, "stores"),
+        (left.words != right.words || left.bytes != right.bytes, "outputs"),
+    ];
+    match differing.iter().find(|(differ, _)| *differ) {
+        Some((_, what)) => Err(format!("{} at S {}: {what} differ", row.name, row.blocks())),
+        None => Ok([others, rusts]),
+    }
+}
+
+/// So many rounds that a turn takes about as long as it should, of whole lists if they are short.
+fn rounds_for(other: &mut impl Side, row: &Row, drives: &mut [Drive; 2]) -> Result<u64, String> {
+    let mut shortest = [Duration::MAX; 2];
+    for _ in 0..3 {
+        let taken = turns(other, FIRST_ROUNDS, row, drives)?;
+        shortest = [shortest[0].min(taken[0]), shortest[1].min(taken[1])];
+    }
+    let each = shortest.map(|taken| taken.as_secs_f64() / FIRST_ROUNDS as f64);
+    let wished = TURN.as_secs_f64() / each[0].min(each[1]);
+    let allowed = LONGEST_TURN.as_secs_f64() / each[0].max(each[1]);
+    let list = (row.commands.len() / COMMAND_WORDS) as u64;
+    let rounds = wished.min(allowed) as u64;
+    Ok((rounds - rounds % list).max(list))
+}
+
+fn measure(other: &mut impl Side, row: &Row, count: usize) -> Result<Times, String> {
+    let mut drives = [row.drive.clone(), row.drive.clone()];
+    let rounds = rounds_for(other, row, &mut drives)?;
+    let mut taken = [Vec::new(), Vec::new()];
+    for _ in 0..count {
+        let both = turns(other, rounds, row, &mut drives)?;
+        taken[0].push(both[0]);
+        taken[1].push(both[1]);
+    }
+    let [other, rust] = taken.map(|taken| median(taken).as_secs_f64() * 1e9 / rounds as f64);
+    Ok(Times { other, rust })
+}
+
+fn median(mut taken: Vec<Duration>) -> Duration {
+    taken.sort();
+    taken[taken.len() / 2]
+}
+
+fn measure_all(other: &mut impl Side, rows: &[Row], turns: usize) -> Result<Vec<Times>, String> {
+    println!("nanoseconds per command, medians of {turns} turns of each side");
+    println!("{:42} {:>4} {:>10} {:>10} {:>7}", "", "S", "Rattle", "Rust", "ratio");
+    let mut times = Vec::new();
+    for row in rows {
+        let Times { other, rust } = measure(other, row, turns)?;
+        let ratio = other / rust;
+        println!("{:42} {:>4} {other:>10.1} {rust:>10.1} {ratio:>7.2}", row.name, row.blocks());
+        times.push(Times { other, rust });
+    }
+    Ok(times)
+}
+
+/// How the time grows with S, for the rows that were measured at the least and the most.
+fn print_growth(rows: &[Row], times: &[Times]) {
+    let (least, most) = (DRIVES[0], DRIVES[DRIVES.len() - 1]);
+    let measured = || rows.iter().zip(times);
+    let mut headed = false;
+    for (row, small) in measured().filter(|(row, _)| row.blocks() == least) {
+        let same = |(other, _): &(&Row, &Times)| other.name == row.name && other.blocks() == most;
+        let Some((_, large)) = measured().find(same) else {
+            continue;
+        };
+        if !headed {
+            println!(
+                "\n{:42} {:>10} {:>10}",
+                format!("time at S {most} / time at S {least}"),
+                "Rattle",
+                "Rust"
+            );
+            headed = true;
+        }
+        let (others, rusts) = (large.other / small.other, large.rust / small.rust);
+        println!("{:42} {others:>10.2} {rusts:>10.2}", row.name);
+    }
+}
+
+#[cfg(test)]
+mod tests {
+    use super::*;
+    use bench::manager::Way;
+
+    #[test]
+    fn every_list_goes_as_said_and_has_its_own_name() {
+        let rows = all_rows();
+        for (i, row) in rows.iter().enumerate() {
+            let same = |other: &Row| other.name == row.name && other.blocks() == row.blocks();
+            assert!(!rows[..i].iter().any(same), "{} {}", row.name, row.blocks());
+        }
+        assert_eq!(rows.len(), 4 * 18 + 12 + 3);
+    }
+
+    #[test]
+    fn a_busy_drive_has_blocks_in_all_states() {
+        for blocks in DRIVES {
+            let busy = Busy::new(shape(blocks, 1, 1));
+            let present = &busy.table.blocks[..blocks as usize];
+            let count = |is: &dyn Fn(State) -> bool| {
+                present.iter().filter(|block| is(block.state)).count() as u64
+            };
+            assert_eq!(count(&|state| state == State::Free), blocks / 4);
+            assert_eq!(count(&|state| state == State::Open(Way::Erase)), blocks / 8);
+            assert_eq!(count(&|state| state == State::Closed(Way::Erase)), blocks / 4);
+            let open = |state| matches!(state, State::Open(Way::Placement(_)));
+            assert_eq!(count(&open), blocks / 8);
+            let closed = |state| matches!(state, State::Closed(Way::Placement(_)));
+            assert_eq!(count(&closed), blocks / 4);
+        }
+    }
+
+    #[test]
+    fn equal_sides_agree_and_others_do_not() {
+        struct Wrong;
+        impl Side for Wrong {
+            fn run(&mut self, rounds: u64, commands: &[u64], drive: &mut Drive) -> u64 {
+                let sum = Manager.run(rounds, commands, drive);
+                drive.store[0] ^= 1;
+                sum
+            }
+        }
+        let busy = Busy::new(shape(8, 1, 1));
+        let row = busy.row("Pulse 0", &[Command::Pulse { seconds: 0 }]);
+        let mut drives = [row.drive.clone(), row.drive.clone()];
+        assert!(turns(&mut Manager, 10, &row, &mut drives).is_ok());
+        let told = turns(&mut Wrong, 10, &row, &mut drives).expect_err("a difference");
+        assert_eq!(told, "Pulse 0 at S 8: stores differ");
+    }
+
+    #[test]
+    fn a_checksum_is_of_all_answers() {
+        let busy = Busy::new(shape(8, 1, 1));
+        let commands = [
+            Command::Close { domain: OWN, block: 0 },
+            Command::Close { domain: OWN + 1, block: 0 },
+            Command::Pulse { seconds: 0 },
+        ];
+        let mut row = busy.row("", &commands);
+        let sum = Manager.run(4, &row.commands, &mut row.drive);
+        assert_eq!(sum, ((256 * 31 + 9) * 31) * 31 + 256);
+    }
+
+    #[test]
+    fn arguments_choose_rows() {
+        let read = |words: &[&str]| {
+            Choice::read(&words.iter().map(|&word| word.into()).collect::<Vec<_>>())
+        };
+        assert_eq!(read(&[]), Some(Choice::default()));
+        let both = Choice { row: Some("Page".into()), blocks: Some(8), list: false };
+        assert_eq!(read(&["--row", "Page", "--blocks", "8"]), Some(both));
+        assert_eq!(read(&["--row"]), None);
+        assert_eq!(read(&["Page"]), None);
+    }
+}

@@ -1,0 +1,113 @@
+// What another implementation is compared with, and timed against. A row that is too short for a table
+// gets 17, which no question has, and nothing is done.
+use crate::commands::answer_number;
+use crate::commands::command_in;
+use crate::commands::command_of;
+use crate::rows::ROW;
+use crate::rows::put_table;
+use crate::rows::table_in;
+use geometry::Config;
+use manager::serve;
+use manager::start;
+ghost use Rattle.geometry.specs.Answers.{configOf};
+ghost use Rattle.trial.specs.Commands.{commandOf};
+ghost use Rattle.trial.specs.Trials.{RunTried, ServeTried, StartTried, lending};
+
+const TOO_SHORT: u64 = 17;
+
+#[no_mangle]
+pub extern "C" fn trial_start(
+    pages: u64,
+    dies: u64,
+    planes: u64,
+    adus: u64,
+    blocks: u64,
+    rated: u64,
+    period: u64,
+    row: &mut [u64],
+) -> u64
+    ensures { λ r. ⌜ StartTried (configOf pages dies planes adus blocks rated period) r (now (row .entry)) (now (row .exit)) ⌝ }
+{
+    if row.len() < ROW {
+        return TOO_SHORT;
+    }
+    let config = Config {
+        pages,
+        dies,
+        planes,
+        adus,
+        blocks,
+        rated,
+        period,
+    };
+    let started = start(config);
+    let table = started.table;
+    put_table(row, table);
+    let answer = started.answer;
+    answer_number(answer)
+}
+
+// One command on the table of the row.
+#[no_mangle]
+pub extern "C" fn trial_serve(
+    kind: u64,
+    a: u64,
+    b: u64,
+    c: u64,
+    d: u64,
+    e: u64,
+    row: &mut [u64],
+    store: &mut [u64],
+    words: &mut [u64],
+    bytes: &mut [u8],
+) -> u64
+    ensures { λ r. ⌜ ServeTried (commandOf kind a b c d e) r (lending (now (row .entry)) (now (store .entry)) (now (words .entry)) (now (bytes .entry))) (lending (now (row .exit)) (now (store .exit)) (now (words .exit)) (now (bytes .exit))) ⌝ }
+{
+    if row.len() < ROW {
+        return TOO_SHORT;
+    }
+    let table = table_in(row);
+    let served = serve(table, command_of(kind, a, b, c, d, e), store, words, bytes);
+    let after = served.table;
+    put_table(row, after);
+    let answer = served.answer;
+    answer_number(answer)
+}
+
+// So many commands, one after the other from a row of them and then from its start again. What they
+// answer is summed up.
+#[no_mangle]
+pub extern "C" fn trial_run(
+    rounds: u64,
+    commands: &[u64],
+    row: &mut [u64],
+    store: &mut [u64],
+    words: &mut [u64],
+    bytes: &mut [u8],
+) -> u64
+    ensures { λ r. ⌜ RunTried rounds (now (commands .entry)) r (lending (now (row .entry)) (now (store .entry)) (now (words .entry)) (now (bytes .entry))) (lending (now (row .exit)) (now (store .exit)) (now (words .exit)) (now (bytes .exit))) ⌝ }
+{
+    if row.len() < ROW {
+        return TOO_SHORT;
+    }
+    if commands.len() < 6 {
+        return TOO_SHORT;
+    }
+    let mut table = table_in(row);
+    let mut sum: u64 = 0;
+    let mut at: usize = 0;
+    for _ in 0..rounds {
+        let command = command_in(commands, at);
+        let served = serve(table, command, store, words, bytes);
+        let after = served.table;
+        table = after;
+        let answer = served.answer;
+        sum = (sum * 31 + answer_number(answer)) % 4294967296;
+        at = at + 6;
+        if commands.len() - at < 6 {
+            at = 0;
+        }
+    }
+    put_table(row, table);
+    sum
+}

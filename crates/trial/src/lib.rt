@@ -1,0 +1,9 @@
+// The manager behind a C boundary, for the benchmark and for the comparison with another implementation:
+// a table crosses as a row of numbers, and so does a command.
+mod commands;
+mod host;
+mod rows;
+
+pub use host::trial_run;
+pub use host::trial_serve;
+pub use host::trial_start;
