@@ -1,12 +1,12 @@
 //! Runs a script of commands and holds the answers against the wanted ones.
 //!
-//! The environment variable VECTORS names a folder with commands.txt and answers.txt; without it
-//! nothing is tested. The answers given are left as answers.txt in the tests' temporary folder.
+//! They are those that the program `drive` is run on: its standard input and what it is to print. The
+//! answers given are left as answers.txt in the tests' temporary folder.
 
 use bench::manager::{
     make_address, take_apart, Answer, Command, Config, Elements, Listed, Table, ANY_BLOCK,
 };
-use std::{env, fs, path::Path};
+use std::{fs, path::Path};
 
 const FULL_WORDS: usize = 4096;
 const FULL_BYTES: usize = 4096;
@@ -204,15 +204,12 @@ fn agree(command: &str, want: &str, got: &str) -> bool {
 
 #[test]
 fn vectors_are_answered_as_wanted() {
-    let Ok(folder) = env::var("VECTORS") else {
-        eprintln!("VECTORS is not set: skipped");
-        return;
-    };
-    let read = |name: &str| fs::read_to_string(Path::new(&folder).join(name)).expect(name);
-    let script = read("commands.txt");
+    let folder = Path::new(env!("CARGO_MANIFEST_DIR")).join("../crates/drive");
+    let read = |name: &str| fs::read_to_string(folder.join(name)).expect(name);
+    let script = read("stdin");
     let uncommented = script.lines().map(|line| line.split('#').next().unwrap_or("").trim());
     let commands: Vec<&str> = uncommented.filter(|line| !line.is_empty()).collect();
-    let wanted = read("answers.txt");
+    let wanted = read("stdout");
     let mut drive = Drive::new();
     let given: Vec<String> = commands
         .iter()
