@@ -3,3 +3,4 @@ pub mod Serving
 pub mod Verdicts
 pub mod Survey
 pub mod Changes
+pub mod Changing

@@ -4,6 +4,7 @@
 //
 // These functions serve the crates of the commands. What a host calls is in `manager`.
 mod arguments;
+mod change;
 mod choice;
 mod coverage;
 mod freeing;
@@ -17,6 +18,15 @@ pub use arguments::domain_verdict;
 pub use arguments::ends_within;
 pub use arguments::is_count;
 pub use arguments::store_verdict;
+pub use change::Change;
+pub use change::Outcome;
+pub use change::block_change;
+pub use change::deletion;
+pub use change::domain_change;
+pub use change::opening_change;
+pub use change::pulse_change;
+pub use change::refusal;
+pub use change::unchanged;
 pub use choice::Choice;
 pub use choice::chosen_block;
 pub use choice::erased_block;

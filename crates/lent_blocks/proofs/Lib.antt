@@ -1,0 +1,2 @@
+-- What the walks share.
+pub mod Lending

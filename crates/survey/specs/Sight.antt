@@ -1,0 +1,108 @@
+-- What a command sees of a table.
+use Prim.Native.Nat.{ℕ, _+_, _*_, _/_, _<_, _≤_}
+use mathlib.Core.Bool.{Bool, true, false, cond}
+use mathlib.Core.List.{List}
+use mathlib.Core.Option.{Option, none, some}
+use mathlib.Core.Path.{_≡_}
+use lib.ListN.{length, take}
+use Rattle.geometry.specs.Address.{isDomainId}
+use Rattle.geometry.specs.Shape.{adusPerBlock, withinLimits}
+use Rattle.survey.specs.Clauses.{coveredTo, domainsSound}
+use Rattle.survey.specs.Marks.{mark, markCount, preparedMarks}
+use Rattle.survey.specs.Pass.{Passing, Walked, isListed, listMark, passing}
+use Rattle.survey.specs.declared.pass.Found.{Found}
+use Rattle.survey.specs.declared.pass.Found.the-variants.{Block as FoundBlock, Nothing}
+use Rattle.survey.specs.declared.pass.Pass.{Pass}
+use Rattle.survey.specs.declared.pass.Subject.{Subject}
+use Rattle.survey.specs.declared.sight.Covering.{Covering}
+use Rattle.survey.specs.declared.sight.Sight.{Sight}
+use Rattle.model.specs.declared.command.Listed.{Listed}
+use Rattle.model.specs.declared.table.Domain.{Domain}
+use Rattle.model.specs.declared.table.Table.{Table}
+use Rattle.rules.specs.Blocks.{chosenBlock}
+use Rattle.rules.specs.Domains.{coverage, reservedBy}
+use Rattle.rules.specs.Drive.{blockAt, clearBlock, domainAt, heldCount, isFree, openBlock, openCount, size}
+use Rattle.rules.specs.LogPages.{wearIndex}
+use Rattle.rules.specs.Soundness.{sound}
+use Rattle.tables.specs.Changes.{ErasesKnown, chosen}
+use Rattle.tables.specs.Changing.{presentBlocks}
+use Rattle.tables.specs.declared.choice.Choice.the-variants as choice
+
+abbrev pub foundIn : Found → Option ℕ
+foundIn Nothing = none
+foundIn (FoundBlock n) = some n
+
+-- Of a table and the domain d: whether it is sound; and where it is, the domain's counts and the coverage.
+pub record Sees (t : Table) (d : ℕ) (x : Sight) : Type 0 where
+  pub tested : x .sound ≡ sound t
+  pub same-config : x .config ≡ t .config
+  pub same-domain : x .domain ≡ domainAt t d
+  pub holds : x .sound ≡ true → isDomainId d ≡ true → x .held ≡ heldCount t d
+  pub opens : x .sound ≡ true → isDomainId d ≡ true → x .opened ≡ openCount t d
+  pub covers : x .sound ≡ true → x .coverage ≡ coverage (reservedBy t) (heldCount t)
+
+-- The record of block n, where it is one of the drive.
+pub record SeesBlock (t : Table) (n : ℕ) (x : Sight) : Type 0 where
+  pub same-block : x .sound ≡ true → n < size t → x .block ≡ blockAt t n
+
+-- Two tables with the same Free blocks, as far as the choice goes, but for block n.
+abbrev pub SameFree : Table → Table → ℕ → ℕ → Type 0
+SameFree t u size n = (i : ℕ) → i < size → ¬ (i ≡ n)
+    → (isFree (blockAt u i) ≡ isFree (blockAt t i)) × (blockAt u i .erases ≡ blockAt t i .erases)
+
+-- The Free block that is opened next, and the one after it, once the first is no longer Free.
+pub record SeesChoice (t : Table) (x : Sight) : Type 0 where
+  pub first-chosen : x .sound ≡ true → chosen (x .first) ≡ chosenBlock t
+  pub first-erases : x .sound ≡ true → ErasesKnown t (x .first)
+  pub second-chosen : x .sound ≡ true → (n : ℕ) (u : Table) → chosen (x .first) ≡ some n → size u ≡ size t
+      → isFree (blockAt u n) ≡ false → SameFree t u (size t) n → chosen (x .second) ≡ chosenBlock u
+  pub second-erases : x .sound ≡ true → ErasesKnown t (x .second)
+  pub second-none : x .sound ≡ true → chosen (x .first) ≡ none → x .second ≡ choice.Nothing
+  pub whole : x .sound ≡ true → size t ≤ length (t .blocks)
+
+-- The block that a placement has open, and its record.
+pub record SeesPlacement (t : Table) (d p : ℕ) (x : Sight) : Type 0 where
+  pub same-open : x .sound ≡ true → foundIn (x .found) ≡ openBlock t d p
+  pub open-block : x .sound ≡ true → (n : ℕ) → openBlock t d p ≡ some n → x .block ≡ blockAt t n
+
+-- Some table is seen so.
+abbrev pub Seen : ℕ → Sight → Type 0
+Seen d x = (t : Table) × Sees t d x
+
+-- What the marks tell of each block for a list: its mark and 16 times its P/E index, or 0 if it is not listed.
+pub record SeesList (t : Table) (d : ℕ) (which : Listed) (x : Sight) (marks : List ℕ) : Type 0 where
+  pub codes : x .sound ≡ true → (n : ℕ) → n < size t
+      → mark marks (576 + n) / 131072
+      ≡ cond (isListed which d (blockAt t n)) (listMark (blockAt t n) + 16 * wearIndex (t .config) (blockAt t n .erases)) 0
+
+-- ---- From the pass
+
+-- The subject has what the pass needs of the table's configuration.
+pub record SubjectOf (t : Table) (s : Subject) : Type 0 where
+  pub same-period : s .period ≡ t .config .period
+  pub same-capacity : withinLimits (t .config) ≡ true → s .capacity ≡ adusPerBlock (t .config) .0
+  pub same-rated : s .rated ≡ t .config .rated
+
+-- What the pass over the domains gives.
+pub record DomainsPassed (rs : List Domain) (blocks : ℕ) (marks : List ℕ) (r : Covering) : Type 0 where
+  pub clauses : r .sound ≡ domainsSound rs blocks (mark marks) (λ i. mark marks (16 + i)) 16
+  pub sum-is : r .coverage ≡ coveredTo rs (mark marks) 16
+
+-- What was found before the first block.
+abbrev pub begunPass : Pass
+begunPass = record { sound = true; found = Nothing; block = clearBlock; first = choice.Nothing; second = choice.Nothing }
+
+-- The pass went over the blocks of a table, and found this.
+pub record PassedOver (t : Table) (s : Subject) (x : Passing) : Type 0 where
+  pub records : length (t .blocks) ≡ 256
+  pub entries : length (x .marks) ≡ markCount
+  pub walked : Walked s 0 (take (presentBlocks (t .config)) (t .blocks)) (passing begunPass (preparedMarks (t .domains))) x
+
+-- What is seen, of a subject that has its numbers from the table's configuration: the table and the subject's domain, and where the
+-- table is sound, the block that the subject is about, the choice, and what is listed.
+pub record Sighted (t : Table) (s : Subject) (x : Passing) (r : Sight) : Type 0 where
+  pub sees : SubjectOf t s → Sees t (s .domain) r
+  pub names : SubjectOf t s → s .placing ≡ false → SeesBlock t (s .number) r
+  pub places : SubjectOf t s → s .placing ≡ true → SeesPlacement t (s .domain) (s .number) r
+  pub chooses : SubjectOf t s → s .choosing ≡ true → SeesChoice t r
+  pub lists : SubjectOf t s → s .listing ≡ true → SeesList t (s .domain) (s .listed) r (x .marks)

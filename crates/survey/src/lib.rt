@@ -1,0 +1,18 @@
+// The survey of a table, which every command begins with: one pass over the blocks and one over the domains test
+// whether it is sound, count each domain's blocks and find what the command is about.
+mod clauses;
+mod marks;
+mod pass;
+mod questions;
+mod sight;
+
+pub use marks::prepared;
+pub use pass::Found;
+pub use pass::Pass;
+pub use pass::Subject;
+pub use pass::passed;
+pub use questions::covered_with;
+pub use questions::domain_verdict;
+pub use questions::store_verdict;
+pub use sight::Sight;
+pub use sight::sighted;

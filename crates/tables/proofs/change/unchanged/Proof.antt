@@ -1,0 +1,15 @@
+use borrow.Author.Needs.{needs}
+use Rattle.tables.proofs.change.unchanged.Statement.{statement}
+use Rattle.tables.proofs.change.unchanged.Tie as tie
+use Rattle.tables.proofs.change.unchanged.Reads as reads
+use Rattle.tables.proofs.change.unchanged.Lts as lts
+use Rattle.tables.proofs.change.nothing.Reads as nothing-reads
+
+nothing-requires : tie.Need-nothing-requires
+nothing-requires c κs = search needs
+
+returns : tie.Need-returns
+returns c = rw (c .nothing .ensures)
+
+pub unchanged-spec : {M : Type 1} → statement M
+unchanged-spec = tie.close (tie.spec nothing-requires returns)
