@@ -1,83 +1,155 @@
--- An accepted Erase may open its block, and what it then hands back.
+-- What Erase is asked, the block that it opens, that it may, and what it then hands back.
 use Prim.Native.Nat.{ℕ, _+_, _<_}
-use mathlib.Core.Bool.{true}
-use mathlib.Core.List.{List, []}
+use mathlib.Core.Bool.{true, false}
+use mathlib.Core.List.{List, [], _++_}
 use mathlib.Core.Option.{Option, none, some}
 use mathlib.Core.Path.{_≡_, refl, sym, ap, subst, _∙_}
 use lib.Dec.{eqb}
-use lib.ListN.{length}
+use lib.ListN.{drop}
 use borrow.Author.Tests.{eqb-true, leb-true, ltb-true}
+use Rattle.blocks.proofs.Chosen.{chosen-inside, chosen-record}
+use Rattle.blocks.specs.Erasing.{blockQuestions, eraseArguments, eraseState, erasedFirst, erasedOf}
+use Rattle.blocks.specs.Opening.{MayOpenIn, freeBlock}
+use Rattle.blocks.specs.declared.erasing.Erased.{Erased}
+use Rattle.blocks.specs.declared.erasing.Erased.the-variants as erased
+use Rattle.geometry.proofs.Laws.Questions.{positive}
 use Rattle.geometry.proofs.Laws.Shape.{by-test}
-use Rattle.geometry.specs.Address.{isBlock}
-use Rattle.geometry.specs.Questions.{success}
+use Rattle.geometry.specs.Address.{isBlock, isDomainId}
+use Rattle.geometry.specs.Questions.{firstNo, success}
 use Rattle.geometry.specs.Shape.{storeLength}
-use Rattle.tables.proofs.Answering.{accepted-call}
-use Rattle.blocks.specs.Opening.{MayOpen}
-use Rattle.tables.specs.Serving.{answering, served}
+use Rattle.model.specs.Answers.{outcomeOf}
+use Rattle.model.specs.declared.answer.Answer.{Answer}
 use Rattle.model.specs.declared.answer.Answer.the-variants as given
+use Rattle.model.specs.declared.block.Block.{Block}
 use Rattle.model.specs.declared.block.Way.the-variants as way
 use Rattle.model.specs.declared.command.Command.the-variants.{Erase}
+use Rattle.model.specs.declared.table.Domain.{Domain}
 use Rattle.model.specs.declared.table.Table.{Table}
-use Rattle.rules.proofs.Blocks.{Choice, choice}
 use Rattle.rules.proofs.Counting.{the-first}
 use Rattle.rules.proofs.Drive.{overwritten-nothing}
-use Rattle.rules.proofs.Questions.{answered-yes}
-use Rattle.rules.proofs.Soundness.{apart}
-use Rattle.rules.specs.Blocks.{anyBlock, erasedBlock, openedFor}
-use Rattle.rules.specs.Drive.{Drive, domainAt, overwritten, size}
-use Rattle.rules.specs.Effects.{Effect, Serves, effect, erasing, lengthsOf, verdict}
+use Rattle.rules.proofs.Questions.{yes-at}
+use Rattle.rules.specs.Blocks.{anyBlock, chosenBlock, erasedBlock, openedFor}
+use Rattle.rules.specs.Drive.{Drive, blockAt, domainAt, overwritten, size, withBlock, withDomain}
+use Rattle.rules.specs.Effects.{Effect, Serves, effect, erasing, lengthsOf}
 use Rattle.rules.specs.Questions.{isErasable, questions}
+use Rattle.rules.specs.Soundness.{sound}
+use Rattle.survey.proofs.Seeing.{changed-nothing, changed-opening, limits-seen, sound-limits}
+use Rattle.survey.specs.Sight.{Sees, SeesBlock, SeesChoice}
+use Rattle.survey.specs.declared.sight.Sight.{Sight}
+use Rattle.tables.proofs.Answering.{accepted-call, sound-verdict}
+use Rattle.tables.specs.Changes.{ErasesKnown, chosen}
+use Rattle.tables.specs.Changing.{leaving, openingChange, outcomeServed}
+use Rattle.tables.specs.Serving.{answering, drive, served}
+use Rattle.tables.specs.Verdicts.{lending}
+use Rattle.tables.specs.declared.choice.Choice.{Choice}
+use Rattle.tables.specs.declared.choice.Choice.the-variants as choice
 
--- The block that Erase opens is one of the drive.
+-- ---- The questions
+
+-- The record that is seen is asked for no block but one that is named, and for none of another drive: the range comes first.
+pub erase-asked : (t : Table) (store : List ℕ) (entries words bytes d n : ℕ) (x : Sight) → Sees t d x → SeesBlock t n x → x .sound ≡ true
+    → firstNo (eraseArguments x entries d n ++ eraseState t x d n)
+    ≡ firstNo (drop 1 (questions (drive t store) (lending entries words bytes) (Erase d n)))
+unfolding firstNo questions eraseArguments eraseState blockQuestions
+erase-asked t store entries words bytes d n x s b e =
+    rw (s .same-domain, s .same-config) (by-test (isDomainId d)
+    (λ id. rw (s .opens e id) (by-test (eqb n anyBlock)
+    (λ any. rw any)
+    (λ other. by-test (isBlock (t .config) n)
+    (λ q. rw (b .same-block e (ltb-true n (size t) q)))
+    (λ q. rw (q, other)))))
+    (λ id. rw id))
+
+-- ---- The block
+
+-- What Erase is to open, with its record.
+abbrev pub Opens : Table → ℕ → Erased → Type 0
+Opens t n erased.Nothing = erasedBlock t n ≡ none
+Opens t n (erased.Block m b) = (erasedBlock t n ≡ some m) × (blockAt t m ≡ b)
+
+first-opens : (t : Table) (n : ℕ) (c : Choice) → sound t ≡ true → eqb n anyBlock ≡ true → chosen c ≡ chosenBlock t → ErasesKnown t c
+    → Opens t n (erasedFirst c)
+first-opens t n choice.Nothing whole any same known = rw any (sym same)
+first-opens t n (choice.Block m erases) whole any same known =
+    (rw any (sym same), chosen-record t m whole (sym same) ∙ ap freeBlock (sym known))
+
+number-inside : (t : Table) (n : ℕ) → isErasable t n ≡ true → eqb n anyBlock ≡ false → n < size t
+number-inside t n range other = ltb-true n (size t) (the-first (isBlock (t .config) n) (eqb n anyBlock) range other)
+
+pub opens : (t : Table) (d n : ℕ) (x : Sight) → Sees t d x → SeesBlock t n x → SeesChoice t x → x .sound ≡ true → isErasable t n ≡ true
+    → Opens t n (erasedOf x n)
+unfolding erasedOf
+opens t d n x s b f e range =
+    by-test (eqb n anyBlock)
+    (λ any. rw any (first-opens t n (x .first) (sym (s .tested) ∙ e) any (f .first-chosen e) (f .first-erases e)))
+    (λ other. rw other (rw other refl, sym (b .same-block e (number-inside t n range other))))
+
+-- It is one of the drive.
 abbrev numberIn : Option ℕ → ℕ
 numberIn none = 0
 numberIn (some n) = n
 
-inside : (t : Table) (n m : ℕ) → isErasable t n ≡ true → erasedBlock t n ≡ some m → m < size t
-inside t n m range e =
+pub opens-inside : (t : Table) (n m : ℕ) → isErasable t n ≡ true → erasedBlock t n ≡ some m → m < size t
+opens-inside t n m range e =
     by-test (eqb n anyBlock)
-    (λ any. subst (Choice t (size t)) (rw any at e) (choice t (size t)) .inside)
-    (λ other. subst (λ (k : ℕ). k < size t) (ap numberIn (rw other at e))
-    (ltb-true n (size t) (the-first (isBlock (t .config) n) (eqb n anyBlock) range other)))
+    (λ any. chosen-inside t m (rw any at e) .inside)
+    (λ other. subst (λ (k : ℕ). k < size t) (ap numberIn (rw other at e)) (number-inside t n range other))
 
--- Questions 2, 3, 4, 6 and 12 let it be opened.
-pub may-open : (v : Drive) (words bytes : List ℕ) (d n m : ℕ) → verdict v (lengthsOf v words bytes) (Erase d n) ≡ 0
-    → erasedBlock (v .table) n ≡ some m → MayOpen v d m
-unfolding questions
-may-open v words bytes d n m e found =
-    let t = v .table in
-    let lent = lengthsOf v words bytes in
+-- ---- What it may and does
+
+-- The number of an accepted Erase is in range.
+pub erase-range : (t : Table) (entries d n : ℕ) (x : Sight) → Sees t d x
+    → firstNo (eraseArguments x entries d n ++ eraseState t x d n) ≡ 0 → isErasable t n ≡ true
+unfolding positive eraseArguments eraseState blockQuestions
+erase-range t entries d n x s pass = rw (s .same-config) at (yes-at 3 (eraseArguments x entries d n ++ eraseState t x d n) refl pass)
+
+-- Questions 3, 4, 6 and 12 of a sound table let it be opened.
+pub may-open : (t : Table) (entries d n m : ℕ) (x : Sight) → Sees t d x → x .sound ≡ true
+    → firstNo (eraseArguments x entries d n ++ eraseState t x d n) ≡ 0 → erasedBlock t n ≡ some m
+    → MayOpenIn (x .config) entries (x .domain) d m
+unfolding positive eraseArguments eraseState blockQuestions
+may-open t entries d n m x s e pass found =
+    let qs = eraseArguments x entries d n ++ eraseState t x d n in
     record {
-      limits = apart t (answered-yes v lent (Erase d n) 0 e) .limits;
-      id = answered-yes v lent (Erase d n) 2 e;
-      inside = inside t n m (answered-yes v lent (Erase d n) 4 e) found;
-      entries = eqb-true (length (v .store)) (storeLength (t .config) .0) (answered-yes v lent (Erase d n) 1 e);
-      serial = leb-true (domainAt t d .last + 1) 4294967295 (answered-yes v lent (Erase d n) 8 e);
+      limits = limits-seen t d x s e;
+      id = yes-at 1 qs refl pass;
+      inside = rw (s .same-config) (opens-inside t n m (erase-range t entries d n x s pass) found);
+      entries = eqb-true entries (storeLength (x .config) .0) (yes-at 0 qs refl pass);
+      serial = rw (s .same-domain) (leb-true (domainAt t d .last + 1) 4294967295 (yes-at 7 qs refl pass));
     }
 
--- What an accepted Erase hands back: the number of the block that it opens. (Where none is found, the rules open none; but the
--- coverage rule leaves one, `erase-finds-free`.)
-pub opened-call : (v w : Drive) (words bytes : List ℕ) (d n m : ℕ) → verdict v (lengthsOf v words bytes) (Erase d n) ≡ 0
-    → erasedBlock (v .table) n ≡ some m → w ≡ openedFor d way.Erase m v
-    → Serves v (Erase d n) words bytes (served (answering (w .table) (given.Block m)) (w .store) words bytes)
+erasing-fills : (d : ℕ) (found : Option ℕ) (v : Drive) → erasing d found v .words ≡ []
+erasing-fills d none v = refl
+erasing-fills d (some n) v = refl
+
+erased-call : (v w : Drive) (words bytes : List ℕ) (d n : ℕ) (found : Option ℕ) (answer : Answer) → sound (v .table) ≡ true
+    → firstNo (drop 1 (questions v (lengthsOf v words bytes) (Erase d n))) ≡ 0
+    → erasedBlock (v .table) n ≡ found → outcomeOf answer ≡ success (erasing d found v .values) → w ≡ erasing d found v .drive
+    → Serves v (Erase d n) words bytes (served (answering (w .table) answer) (w .store) words bytes)
 unfolding effect
-opened-call v w words bytes d n m e found opens =
-    let does : effect (Erase d n) v ≡ erasing d (some m) v = ap (λ (o : Option ℕ). erasing d o v) found in
-    accepted-call v (Erase d n) words bytes (served (answering (w .table) (given.Block m)) (w .store) words bytes) [] e
-    (ap (λ (x : Effect). success (x .values)) (sym does))
-    (opens ∙ ap (λ (x : Effect). x .drive) (sym does))
-    (sym (overwritten-nothing words) ∙ ap (λ (x : Effect). overwritten 0 (x .words) words) (sym does))
+erased-call v w words bytes d n found answer whole pass f says leaves =
+    let does : effect (Erase d n) v ≡ erasing d found v = ap (λ (o : Option ℕ). erasing d o v) f in
+    accepted-call v (Erase d n) words bytes (served (answering (w .table) answer) (w .store) words bytes) []
+    (sound-verdict v (lengthsOf v words bytes) (Erase d n) whole ∙ pass)
+    (says ∙ ap (λ (x : Effect). success (x .values)) (sym does))
+    (leaves ∙ ap (λ (x : Effect). x .drive) (sym does))
+    (sym (overwritten-nothing words) ∙ ap (λ (filled : List ℕ). overwritten 0 filled words) (sym (ap (λ (x : Effect). x .words) does ∙ erasing-fills d found v)))
     refl
     (sym (overwritten-nothing bytes))
 
-pub none-call : (v : Drive) (words bytes : List ℕ) (d n : ℕ) → verdict v (lengthsOf v words bytes) (Erase d n) ≡ 0
-    → erasedBlock (v .table) n ≡ none → Serves v (Erase d n) words bytes (served (answering (v .table) given.Done) (v .store) words bytes)
-unfolding effect
-none-call v words bytes d n e found =
-    let does : effect (Erase d n) v ≡ erasing d none v = ap (λ (o : Option ℕ). erasing d o v) found in
-    accepted-call v (Erase d n) words bytes (served (answering (v .table) given.Done) (v .store) words bytes) [] e
-    (ap (λ (x : Effect). success (x .values)) (sym does))
-    (ap (λ (x : Effect). x .drive) (sym does))
-    (sym (overwritten-nothing words) ∙ ap (λ (x : Effect). overwritten 0 (x .words) words) (sym does))
-    refl
-    (sym (overwritten-nothing bytes))
+-- An accepted Erase hands back the number of the block that it opens.
+pub opened-outcome : (t : Table) (store after words bytes : List ℕ) (d n m : ℕ) (b : Block) (r : Domain) → sound t ≡ true → m < size t
+    → ¬ (d ≡ 0) → firstNo (drop 1 (questions (drive t store) (lengthsOf (drive t store) words bytes) (Erase d n))) ≡ 0
+    → erasedBlock t n ≡ some m → drive (withDomain d r (withBlock m b t)) after ≡ openedFor d way.Erase m (drive t store)
+    → Serves (drive t store) (Erase d n) words bytes
+    (served (outcomeServed t (record { answer = given.Block m; change = openingChange m b d r })) after words bytes)
+opened-outcome t store after words bytes d n m b r whole l positive-id pass found is =
+    rw (changed-opening t m b d r (sound-limits t whole) l positive-id)
+    (erased-call (drive t store) (drive (withDomain d r (withBlock m b t)) after) words bytes d n (some m) (given.Block m) whole pass found refl is)
+
+-- Where none is found, the rules open none. (But the coverage rule leaves one, `erase-finds-free`.)
+pub none-outcome : (t : Table) (store words bytes : List ℕ) (d n : ℕ) → sound t ≡ true
+    → firstNo (drop 1 (questions (drive t store) (lengthsOf (drive t store) words bytes) (Erase d n))) ≡ 0 → erasedBlock t n ≡ none
+    → Serves (drive t store) (Erase d n) words bytes (served (outcomeServed t (leaving given.Done)) store words bytes)
+none-outcome t store words bytes d n whole pass found =
+    rw (changed-nothing t) (erased-call (drive t store) (drive t store) words bytes d n none given.Done whole pass found refl refl)

@@ -1,2 +1,4 @@
 -- Laws that the functions' proofs share.
+pub mod Named
+pub mod Chosen
 pub mod Erased

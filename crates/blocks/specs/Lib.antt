@@ -1,2 +1,3 @@
--- What opening a block needs.
+-- What opening a block needs, and what Erase is asked and opens.
 pub mod Opening
+pub mod Erasing

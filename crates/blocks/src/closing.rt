@@ -1,71 +1,70 @@
 // Close and Free.
 use model::Answer;
 use model::Refusal;
-use model::Table;
-use tables::Served;
+use survey::Sight;
+use survey::domain_verdict;
+use tables::Outcome;
 use tables::Verdict;
-use tables::block_at;
-use tables::domain_verdict;
+use tables::block_change;
 use tables::is_held;
-use tables::refused;
-use tables::surveyed;
-use tables::with_block;
-ghost use mathlib.Core.List.{List};
+use tables::refusal;
+ghost use mathlib.Core.List.{List, [], _∷_};
 ghost use mathlib.Core.Path.{_≡_};
 ghost use Prim.Native.Nat.{ℕ};
-ghost use lib.ListN.{drop};
-ghost use Rattle.geometry.specs.Questions.{firstNo};
+ghost use Rattle.geometry.specs.Address.{isBlock, isDomainId};
+ghost use Rattle.geometry.specs.Questions as question;
 ghost use Rattle.model.specs.declared.command.Command.the-variants.{Close, Free};
+ghost use Rattle.model.specs.declared.table.Table.{Table};
+ghost use Rattle.rules.specs.Drive.{heldBy};
 ghost use Rattle.rules.specs.Effects.{Serves};
-ghost use Rattle.rules.specs.Questions.{heldBlockQuestions};
+ghost use Rattle.survey.specs.Sight.{Sees, SeesBlock};
+ghost use Rattle.tables.specs.Changing.{outcomeServed};
 ghost use Rattle.tables.specs.Serving.{drive, served};
 ghost use Rattle.tables.specs.Verdicts.{verdictNumber};
 
 // What Close and Free are asked.
-fn held_block_verdict(table: Table, domain: u64, block: u64) -> Verdict
-    ensures { λ r. ⌜ verdictNumber r ≡ firstNo (drop 1 (heldBlockQuestions table domain block)) ⌝ }
+fn held_block_verdict(sight: Sight, domain: u64, block: u64) -> Verdict
+    ensures { λ r. ⌜ verdictNumber r ≡ question.firstNo (question.ask 4 (isDomainId domain) ∷ question.ask 5 (sight .domain .exists) ∷ question.ask 6 (isBlock (sight .config) block) ∷ question.ask 9 (heldBy domain (sight .block)) ∷ []) ⌝ }
 {
-    let b = block_at(table, block);
-    domain_verdict(table, domain)
-        .and(block < table.config.blocks, Refusal::Range)
+    let b = sight.block;
+    domain_verdict(sight, domain)
+        .and(block < sight.config.blocks, Refusal::Range)
         .and(is_held(b, domain), Refusal::Holder)
 }
 
 // An open block becomes Closed; a Closed one stays as it is.
-pub fn close(table: Table, domain: u64, block: u64) -> Served
-    ensures { λ r. ⌜ ((store words bytes : List ℕ) → Serves (drive table store) (Close domain block) words bytes (served r store words bytes)) ⌝ }
+pub fn close(sight: Sight, domain: u64, block: u64) -> Outcome
+    ensures { λ r. ⌜ ((t : Table) (store words bytes : List ℕ) → Sees t domain sight → SeesBlock t block sight → Serves (drive t store) (Close domain block) words bytes (served (outcomeServed t r) store words bytes)) ⌝ }
 {
-    let survey = surveyed(table);
-    if !survey.sound {
-        return refused(table, Refusal::Unsound);
+    if !sight.sound {
+        return refusal(Refusal::Unsound);
     }
-    match held_block_verdict(table, domain, block) {
-        Verdict::No(reason) => refused(table, reason),
+    match held_block_verdict(sight, domain, block) {
+        Verdict::No(reason) => refusal(reason),
         Verdict::Pass => {
-            let b = block_at(table, block);
-            Served {
+            let b = sight.block;
+            Outcome {
                 answer: Answer::Block(block),
-                table: with_block(table, block, b.closed()),
+                change: block_change(block, b.closed()),
             }
         }
     }
 }
 
 // A held block becomes Free; the store keeps its entries.
-pub fn free(table: Table, domain: u64, block: u64) -> Served
-    ensures { λ r. ⌜ ((store words bytes : List ℕ) → Serves (drive table store) (Free domain block) words bytes (served r store words bytes)) ⌝ }
+pub fn free(sight: Sight, domain: u64, block: u64) -> Outcome
+    ensures { λ r. ⌜ ((t : Table) (store words bytes : List ℕ) → Sees t domain sight → SeesBlock t block sight → Serves (drive t store) (Free domain block) words bytes (served (outcomeServed t r) store words bytes)) ⌝ }
 {
-    let survey = surveyed(table);
-    if !survey.sound {
-        return refused(table, Refusal::Unsound);
+    if !sight.sound {
+        return refusal(Refusal::Unsound);
     }
-    match held_block_verdict(table, domain, block) {
-        Verdict::No(reason) => refused(table, reason),
+    match held_block_verdict(sight, domain, block) {
+        Verdict::No(reason) => refusal(reason),
         Verdict::Pass => {
-            let b = block_at(table, block);
-            Served {
+            let b = sight.block;
+            Outcome {
                 answer: Answer::Block(block),
-                table: with_block(table, block, b.freed()),
+                change: block_change(block, b.freed()),
             }
         }
     }

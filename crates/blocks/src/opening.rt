@@ -1,59 +1,57 @@
 // Opening a block: what is asked for it, and the change.
 use buffers::put_row;
+use geometry::Config;
 use geometry::adus_per_block;
 use geometry::stretch_start;
+use model::Block;
 use model::Domain;
 use model::Refusal;
-use model::Table;
 use model::Way;
-use tables::Survey;
+use survey::Sight;
+use survey::covered_with;
 use tables::Verdict;
 use tables::ask;
-use tables::block_at;
-use tables::covered_with;
-use tables::domain_at;
-use tables::held_by;
+use tables::clear_block;
 use tables::reserved_by;
 use tables::serials_left;
-use tables::with_block;
-use tables::with_domain;
 use tables::within_quota;
 ghost use mathlib.Core.Bool.{true};
-ghost use mathlib.Core.List.{[]};
 ghost use mathlib.Core.Path.{_≡_};
-ghost use Prim.Native.Nat.{_≤_};
-ghost use Rattle.blocks.specs.Opening.{MayOpen};
+ghost use Prim.Native.Nat.{_+_, _≤_};
+ghost use lib.ListN.{length};
+ghost use Rattle.blocks.specs.Opening.{MayOpenIn, freeBlock};
 ghost use Rattle.geometry.specs.Address.{isDomainId};
 ghost use Rattle.geometry.specs.Questions.{firstNo};
-ghost use Rattle.geometry.specs.Shape.{withinLimits};
-ghost use Rattle.rules.specs.Blocks.{nextSerial, openedFor, withLast};
+ghost use Rattle.model.specs.Blocks.{opened};
+ghost use Rattle.model.specs.declared.table.Table.{Table};
+ghost use Rattle.rules.specs.Blocks.{openedFor, withLast};
+ghost use Rattle.rules.specs.Drive.{blockAt, domainAt, withBlock, withDomain};
+ghost use Rattle.survey.specs.Sight.{Seen, Sees};
 ghost use Rattle.tables.specs.Serving.{drive};
-ghost use Rattle.tables.specs.Survey.{Surveyed};
 ghost use Rattle.tables.specs.Verdicts.{newBlocksQuestions, verdictNumber};
 
 // ---- The questions
 
 // 12 to 14: are there serials, quota and coverage for so many new serials and blocks?
-pub fn new_blocks_verdict(
-    table: Table,
-    survey: Survey,
-    domain: u64,
-    serials: u32,
-    blocks: u64,
-) -> Verdict
-    requires { ⌜ Surveyed table survey × (survey .sound ≡ true) ⌝ }
+pub fn new_blocks_verdict(sight: Sight, domain: u64, serials: u32, blocks: u64) -> Verdict
+    requires { ⌜ Seen domain sight × (sight .sound ≡ true) ⌝ }
     requires { ⌜ (isDomainId domain ≡ true) × (blocks ≤ 256) ⌝ }
-    ensures { λ r. ⌜ verdictNumber r ≡ firstNo (newBlocksQuestions table domain serials blocks) ⌝ }
+    ensures { λ r. ⌜ ((t : Table) → Sees t domain sight → verdictNumber r ≡ firstNo (newBlocksQuestions t domain serials blocks)) ⌝ }
 {
-    let tally = survey.tally;
-    let d = domain_at(table, domain);
-    let after = held_by(tally, domain) + blocks;
-    let covered = covered_with(table, survey, domain, reserved_by(d), after);
+    let d = sight.domain;
+    let after = sight.held + blocks;
+    let covered = covered_with(sight, domain, reserved_by(d), after);
     ask(serials_left(d, serials), Refusal::Serials).and(within_quota(d, after), Refusal::Quota)
         .and(covered, Refusal::Coverage)
 }
 
 // ---- The change
+
+// The new records of a block that is opened and of the domain that it is opened for.
+pub struct Opened {
+    pub block: Block,
+    pub owner: Domain,
+}
 
 fn with_last(domain: Domain, last: u32) -> Domain
     ensures { λ r. ⌜ r ≡ withLast last domain ⌝ }
@@ -63,29 +61,29 @@ fn with_last(domain: Domain, last: u32) -> Domain
     next
 }
 
-// The block's record and the domain's last serial.
-fn opened_table(table: Table, domain: u64, way: Way, block: u64) -> Table
-    requires { ⌜ withinLimits (table .config) ≡ true ⌝ }
-    requires { ⌜ isDomainId domain ≡ true ⌝ }
-    requires { ⌜ nextSerial table domain ≤ 4294967295 ⌝ }
-    ensures { λ r. ⌜ r ≡ openedFor domain way block (drive table []) .table ⌝ }
+// The record of a Free block: all is clear but the P/E count.
+pub fn free_block(erases: u32) -> Block
+    ensures { λ r. ⌜ r ≡ freeBlock erases ⌝ }
 {
-    let d = domain_at(table, domain);
-    let b = block_at(table, block);
-    let serial = d.last + 1;
-    let period = table.config.period as u32;
-    let opened = b.opened(domain as u8, way, serial, period);
-    let changed = with_block(table, block, opened);
-    with_domain(changed, domain, with_last(d, serial))
+    let mut block = clear_block();
+    block.erases = erases;
+    block
 }
 
-// The block is opened for the domain, with entries of all ones.
-pub fn opened_for(table: Table, domain: u64, way: Way, block: u64, store: &mut [u64]) -> Table
-    requires { ⌜ MayOpen (drive table (now store)) domain block ⌝ }
-    ensures { λ r. ⌜ drive r (now (store .exit)) ≡ openedFor domain way block (drive table (now (store .entry))) ⌝ }
+// Block n is opened for the domain, with entries of all ones.
+pub fn opened_for(
+    config: Config,
+    owner: Domain,
+    domain: u64,
+    way: Way,
+    n: u64,
+    block: Block,
+    store: &mut [u64],
+) -> Opened
+    requires { ⌜ MayOpenIn config (length (now store)) owner domain n ⌝ }
+    ensures { λ r. ⌜ (r .block ≡ opened domain way (owner .last + 1) (config .period) block) × (r .owner ≡ withLast (owner .last + 1) owner) × ((t : Table) → t .config ≡ config → domainAt t domain ≡ owner → blockAt t n ≡ block → drive (withDomain domain (r .owner) (withBlock n (r .block) t)) (now (store .exit)) ≡ openedFor domain way n (drive t (now (store .entry)))) ⌝ }
 {
-    let config = table.config;
-    let start = stretch_start(config, block);
+    let start = stretch_start(config, n);
     let capacity = adus_per_block(config);
     put_row(
         store,
@@ -94,5 +92,9 @@ pub fn opened_for(table: Table, domain: u64, way: Way, block: u64, store: &mut [
         0xffff_ffff_ffff_ffff,
         false,
     );
-    opened_table(table, domain, way, block)
+    let serial = owner.last + 1;
+    Opened {
+        block: block.opened(domain as u8, way, serial, config.period as u32),
+        owner: with_last(owner, serial),
+    }
 }

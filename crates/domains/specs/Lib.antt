@@ -1,2 +1,2 @@
--- What is made of a domain's new record.
+-- What Create and Change Capacity ask first, a domain's new record, and what is made of it.
 pub mod Reserving

@@ -7,34 +7,29 @@ use geometry::whole_blocks;
 use model::Answer;
 use model::Domain;
 use model::Refusal;
-use model::Table;
-use tables::Served;
-use tables::Survey;
+use survey::Sight;
+use survey::covered_with;
+use survey::domain_verdict;
+use tables::Outcome;
 use tables::Verdict;
 use tables::ask;
-use tables::covered_with;
-use tables::domain_at;
-use tables::domain_verdict;
-use tables::held_by;
-use tables::refused;
-use tables::surveyed;
-use tables::with_domain;
+use tables::domain_change;
+use tables::refusal;
 ghost use mathlib.Core.Bool.{true};
 ghost use mathlib.Core.List.{List};
 ghost use mathlib.Core.Path.{_≡_};
 ghost use Prim.Native.Nat.{ℕ, _≤_, max};
-ghost use lib.ListN.{drop, take};
-ghost use Rattle.domains.specs.Reserving.{reserved};
+ghost use Rattle.domains.specs.Reserving.{changeArguments, changedFrom, createArguments, reserved};
 ghost use Rattle.geometry.specs.Address.{isDomainId};
 ghost use Rattle.geometry.specs.Questions.{firstNo};
 ghost use Rattle.geometry.specs.Shape.{wholeBlocks, withinLimits};
 ghost use Rattle.model.specs.declared.command.Command.the-variants.{ChangeCapacity, Create};
-ghost use Rattle.rules.specs.Domains.{arePlaneCounts, changedDomain, createdDomain, newBlockCount, openLimit};
+ghost use Rattle.model.specs.declared.table.Table.{Table};
+ghost use Rattle.rules.specs.Domains.{arePlaneCounts, createdDomain, newBlockCount, openLimit};
 ghost use Rattle.rules.specs.Effects.{Serves};
-ghost use Rattle.rules.specs.Questions.{Lengths, questions};
-ghost use Rattle.rules.specs.Soundness.{sound};
+ghost use Rattle.survey.specs.Sight.{Seen, Sees};
+ghost use Rattle.tables.specs.Changing.{outcomeServed};
 ghost use Rattle.tables.specs.Serving.{drive, served};
-ghost use Rattle.tables.specs.Survey.{Surveyed};
 ghost use Rattle.tables.specs.Verdicts.{verdictNumber};
 
 fn are_plane_counts(config: Config, guarantee: Planes, quota: Planes) -> bool
@@ -61,37 +56,35 @@ fn larger_count(a: u32, b: u32) -> u32
 }
 
 // A domain's new record is put in its place if the guarantees stay covered.
-fn reserved(table: Table, survey: Survey, domain: u64, new: Domain) -> Served
-    requires { ⌜ Surveyed table survey × (survey .sound ≡ true) ⌝ }
+fn reserved(sight: Sight, domain: u64, new: Domain) -> Outcome
+    requires { ⌜ Seen domain sight × (sight .sound ≡ true) ⌝ }
     requires { ⌜ isDomainId domain ≡ true ⌝ }
-    ensures { λ r. ⌜ r ≡ reserved table domain new ⌝ }
+    ensures { λ r. ⌜ ((t : Table) → Sees t domain sight → r ≡ reserved t domain new) ⌝ }
 {
-    let tally = survey.tally;
-    let held = held_by(tally, domain);
-    if covered_with(table, survey, domain, new.reserved as u64, held) {
-        return Served {
+    if covered_with(sight, domain, new.reserved as u64, sight.held) {
+        return Outcome {
             answer: Answer::Done,
-            table: with_domain(table, domain, new),
+            change: domain_change(domain, new),
         };
     }
-    refused(table, Refusal::Coverage)
+    refusal(Refusal::Coverage)
 }
 
 // ---- Create
 
 fn create_arguments(
-    table: Table,
+    sight: Sight,
     domain: u64,
     guarantee: Planes,
     quota: Planes,
     placements: u64,
     limit: u64,
 ) -> Verdict
-    requires { ⌜ sound table ≡ true ⌝ }
-    ensures { λ r. ⌜ ((store : List ℕ) (lent : Lengths) → verdictNumber r ≡ firstNo (take 3 (drop 1 (questions (drive table store) lent (Create domain guarantee quota placements limit))))) ⌝ }
+    requires { ⌜ withinLimits (sight .config) ≡ true ⌝ }
+    ensures { λ r. ⌜ verdictNumber r ≡ firstNo (createArguments sight domain guarantee quota placements limit) ⌝ }
 {
-    let config = table.config;
-    let d = domain_at(table, domain);
+    let config = sight.config;
+    let d = sight.domain;
     let range = are_plane_counts(config, guarantee, quota)
         & ((1 <= placements) & (placements <= 16))
         & (limit <= 256);
@@ -136,37 +129,37 @@ fn created_domain(
 
 // A new domain, if the guarantees stay covered with its own.
 pub fn create(
-    table: Table,
+    sight: Sight,
     domain: u64,
     guarantee: Planes,
     quota: Planes,
     placements: u64,
     limit: u64,
-) -> Served
-    ensures { λ r. ⌜ ((store words bytes : List ℕ) → Serves (drive table store) (Create domain guarantee quota placements limit) words bytes (served r store words bytes)) ⌝ }
+) -> Outcome
+    requires { ⌜ Seen domain sight ⌝ }
+    ensures { λ r. ⌜ ((t : Table) (store words bytes : List ℕ) → Sees t domain sight → Serves (drive t store) (Create domain guarantee quota placements limit) words bytes (served (outcomeServed t r) store words bytes)) ⌝ }
 {
-    let survey = surveyed(table);
-    if !survey.sound {
-        return refused(table, Refusal::Unsound);
+    if !sight.sound {
+        return refusal(Refusal::Unsound);
     }
-    match create_arguments(table, domain, guarantee, quota, placements, limit) {
-        Verdict::No(reason) => refused(table, reason),
+    match create_arguments(sight, domain, guarantee, quota, placements, limit) {
+        Verdict::No(reason) => refusal(reason),
         Verdict::Pass => {
-            let config = table.config;
+            let config = sight.config;
             let new = created_domain(config, guarantee, quota, placements, limit);
-            reserved(table, survey, domain, new)
+            reserved(sight, domain, new)
         }
     }
 }
 
 // ---- Change Capacity
 
-fn change_arguments(table: Table, domain: u64, guarantee: Planes, quota: Planes) -> Verdict
-    requires { ⌜ sound table ≡ true ⌝ }
-    ensures { λ r. ⌜ ((store : List ℕ) (lent : Lengths) → verdictNumber r ≡ firstNo (take 3 (drop 1 (questions (drive table store) lent (ChangeCapacity domain guarantee quota))))) ⌝ }
+fn change_arguments(sight: Sight, domain: u64, guarantee: Planes, quota: Planes) -> Verdict
+    requires { ⌜ withinLimits (sight .config) ≡ true ⌝ }
+    ensures { λ r. ⌜ verdictNumber r ≡ firstNo (changeArguments sight domain guarantee quota) ⌝ }
 {
-    let config = table.config;
-    domain_verdict(table, domain).and(are_plane_counts(config, guarantee, quota), Refusal::Range)
+    let config = sight.config;
+    domain_verdict(sight, domain).and(are_plane_counts(config, guarantee, quota), Refusal::Range)
 }
 
 fn new_block_count(config: Config, n: Planes, present: u32) -> u32
@@ -181,22 +174,15 @@ fn new_block_count(config: Config, n: Planes, present: u32) -> u32
     }
 }
 
-fn changed_domain(
-    table: Table,
-    survey: Survey,
-    domain: u64,
-    guarantee: Planes,
-    quota: Planes,
-) -> Domain
-    requires { ⌜ Surveyed table survey × (survey .sound ≡ true) ⌝ }
-    requires { ⌜ isDomainId domain ≡ true ⌝ }
-    requires { ⌜ arePlaneCounts (table .config) guarantee quota ≡ true ⌝ }
-    ensures { λ r. ⌜ r ≡ changedDomain table domain guarantee quota ⌝ }
+fn changed_domain(sight: Sight, guarantee: Planes, quota: Planes) -> Domain
+    requires { ⌜ withinLimits (sight .config) ≡ true ⌝ }
+    requires { ⌜ arePlaneCounts (sight .config) guarantee quota ≡ true ⌝ }
+    requires { ⌜ sight .held ≤ 256 ⌝ }
+    ensures { λ r. ⌜ r ≡ changedFrom (sight .config) (sight .domain) (sight .held) guarantee quota ⌝ }
 {
-    let config = table.config;
-    let present = domain_at(table, domain);
-    let tally = survey.tally;
-    let held = held_by(tally, domain) as u32;
+    let config = sight.config;
+    let present = sight.domain;
+    let held = sight.held as u32;
     let reserved = new_block_count(config, guarantee, present.reserved);
     let quota = new_block_count(config, quota, present.quota);
     let mut new = present;
@@ -206,18 +192,18 @@ fn changed_domain(
 }
 
 // Another guarantee and quota; 0 keeps the present one, and the quota does not fall below what is held.
-pub fn change_capacity(table: Table, domain: u64, guarantee: Planes, quota: Planes) -> Served
-    ensures { λ r. ⌜ ((store words bytes : List ℕ) → Serves (drive table store) (ChangeCapacity domain guarantee quota) words bytes (served r store words bytes)) ⌝ }
+pub fn change_capacity(sight: Sight, domain: u64, guarantee: Planes, quota: Planes) -> Outcome
+    requires { ⌜ Seen domain sight ⌝ }
+    ensures { λ r. ⌜ ((t : Table) (store words bytes : List ℕ) → Sees t domain sight → Serves (drive t store) (ChangeCapacity domain guarantee quota) words bytes (served (outcomeServed t r) store words bytes)) ⌝ }
 {
-    let survey = surveyed(table);
-    if !survey.sound {
-        return refused(table, Refusal::Unsound);
+    if !sight.sound {
+        return refusal(Refusal::Unsound);
     }
-    match change_arguments(table, domain, guarantee, quota) {
-        Verdict::No(reason) => refused(table, reason),
+    match change_arguments(sight, domain, guarantee, quota) {
+        Verdict::No(reason) => refusal(reason),
         Verdict::Pass => {
-            let new = changed_domain(table, survey, domain, guarantee, quota);
-            reserved(table, survey, domain, new)
+            let new = changed_domain(sight, guarantee, quota);
+            reserved(sight, domain, new)
         }
     }
 }

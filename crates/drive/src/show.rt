@@ -5,15 +5,11 @@ use geometry::Config;
 use geometry::adus_per_block;
 use geometry::planes_per_block;
 use model::Block;
+use model::Domain;
 use model::State;
 use model::Table;
 use model::Way;
-use tables::Tally;
-use tables::block_at;
-use tables::domain_at;
-use tables::held_by;
-use tables::opened_by;
-use tables::surveyed;
+use tables::is_open;
 ghost use Prim.Native.Nat.{_≤_};
 
 fn say_blanks(count: u64) {
@@ -67,10 +63,33 @@ fn larger(a: u64, b: u64) -> u64 {
     if a < b { b } else { a }
 }
 
+// How many blocks each domain holds and has open, by its ID; entry 0 counts the Free ones.
+struct Counts {
+    held: [u64; 32],
+    opened: [u64; 32],
+}
+
+fn one_if(holds: bool) -> u64 {
+    if holds { 1 } else { 0 }
+}
+
+// Entries that are no blocks of the drive are clear, and have no holder.
+fn counted(table: Table) -> Counts {
+    let mut held = [0; 32];
+    let mut opened = [0; 32];
+    for n in 0..256 {
+        let block = table.blocks[n];
+        let holder = (block.holder % 32) as usize;
+        let others = held[holder];
+        held[holder] = std::num::wrapping_add_u64(others, 1);
+        let before = opened[holder];
+        opened[holder] = std::num::wrapping_add_u64(before, one_if(is_open(block)));
+    }
+    Counts { held, opened }
+}
+
 // The row of a domain, and the coverage with it.
-fn show_domain(table: Table, tally: Tally, domain: u64, coverage: u64) -> u64 {
-    let record = domain_at(table, domain);
-    let held = held_by(tally, domain);
+fn show_domain(record: Domain, held: u64, opened: u64, domain: u64, coverage: u64) -> u64 {
     let reserved = record.reserved as u64;
     let sum = std::num::wrapping_add_u64(coverage, larger(reserved, held));
     say_column(domain, 6);
@@ -78,7 +97,7 @@ fn show_domain(table: Table, tally: Tally, domain: u64, coverage: u64) -> u64 {
         say_column(reserved, 10);
         say_column(record.quota as u64, 7);
         say_column(held, 6);
-        say_column(opened_by(tally, domain), 6);
+        say_column(opened, 6);
     } else {
         say(b"         -      -     -     -");
     }
@@ -88,13 +107,16 @@ fn show_domain(table: Table, tally: Tally, domain: u64, coverage: u64) -> u64 {
 }
 
 fn show_domains(table: Table) {
-    let survey = surveyed(table);
-    let tally = survey.tally;
+    let counts = counted(table);
+    let held = counts.held;
+    let opened = counts.opened;
+    let domains = table.domains;
     let mut sum = 0;
-    let mut domain = 16;
-    while 0 < domain {
-        sum = show_domain(table, tally, domain, sum);
-        domain -= 1;
+    for n in 0..16 {
+        let last = 15 - n;
+        let record = domains[last];
+        let domain = last + 1;
+        sum = show_domain(record, held[domain], opened[domain], domain as u64, sum);
     }
 }
 
@@ -147,7 +169,8 @@ fn show_row(table: Table, first: u64, holders: bool) {
     let mut row = [b' '; 64];
     for i in 0..count {
         let n = std::num::wrapping_add_u64(first, i as u64);
-        row[i] = letter(block_at(table, n), holders);
+        let block = table.blocks[(n % 256) as usize];
+        row[i] = letter(block, holders);
     }
     say(&row[..count]);
     say(b"\n");

@@ -2,10 +2,10 @@
 // proved of one record.
 use countdown::count_down;
 use model::Block;
-use tables::Change;
 use survey::Pass;
 use survey::Subject;
 use survey::passed;
+use tables::Change;
 ghost use Prim.Native.Nat.{_≤_};
 ghost use mathlib.Core.List.{map};
 ghost use mathlib.Core.Path.{_≡_};

@@ -1,20 +1,28 @@
--- In a sound table a domain's blocks are open or Closed.
+-- In a sound table a domain's blocks are open or Closed, and so many bytes a list fills.
 use Prim.Native.Nat.{ℕ, _+_, _≤_}
 use mathlib.Core.Bool.{Bool, true, false, _&&_, cond}
 use mathlib.Core.List.{[]}
-use mathlib.Core.Path.{_≡_, refl, _∙_}
+use mathlib.Core.Path.{_≡_, refl, sym, _∙_}
 use native.Mathlib.Omega.{arith}
 use borrow.Author.Tests.{ne-eqb}
-use Rattle.tables.specs.Serving.{drive}
+use Rattle.geometry.proofs.Laws.Shape.{is-between}
+use Rattle.geometry.specs.Address.{isDomainId}
+use Rattle.log_pages.specs.LogPages.{lengthSeen}
 use Rattle.model.specs.declared.block.Block.{Block}
 use Rattle.model.specs.declared.block.State.{State}
 use Rattle.model.specs.declared.block.State.the-variants.{Closed, Free, Open}
+use Rattle.model.specs.declared.command.Listed.{Listed}
+use Rattle.model.specs.declared.command.Listed.the-variants as listed
 use Rattle.model.specs.declared.table.Table.{Table}
 use Rattle.rules.proofs.Counting.{sum-add, sum-same}
 use Rattle.rules.proofs.Kept.Facts.{BlockFacts, StateFacts}
 use Rattle.rules.proofs.Kept.Tested.{facts-of}
 use Rattle.rules.specs.Drive.{blockAt, closedCount, closedOf, heldBy, heldCount, isClosedState, isOpenState, openCount, openOf, size}
+use Rattle.rules.specs.LogPages.{listLength}
 use Rattle.rules.specs.Soundness.{sound}
+use Rattle.survey.specs.Sight.{Sees}
+use Rattle.survey.specs.declared.sight.Sight.{Sight}
+use Rattle.tables.specs.Serving.{drive}
 
 -- A block that a domain holds is one of the two.
 open-or-closed : (t : Table) (b : Block) (d : ℕ) → BlockFacts t b → 1 ≤ d
@@ -40,3 +48,19 @@ held-counts t d s l =
     sum-same (size t) (λ i. cond (heldBy d (blockAt t i)) 1 0) (λ i. opens i + closes i)
     (λ i k. open-or-closed t (blockAt t i) d (facts-of (drive t []) s .blocks i k) l)
     ∙ sum-add (size t) opens closes
+
+-- Of what is seen: as many blocks are open as in the table, and those and the Closed ones are held, ..
+counts-seen : (t : Table) (d : ℕ) (x : Sight) → Sees t d x → x .sound ≡ true → isDomainId d ≡ true
+    → (x .opened ≡ openCount t d) × (x .held ≡ openCount t d + closedCount t d)
+counts-seen t d x s e id =
+    (s .opens e id, s .holds e id ∙ held-counts t d (sym (s .tested) ∙ e) (is-between 1 16 d id .least))
+
+-- .. so that no more are open than held, ..
+pub few-open : (t : Table) (d : ℕ) (x : Sight) → Sees t d x → x .sound ≡ true → isDomainId d ≡ true → x .opened ≤ x .held
+few-open t d x s e id = let h = counts-seen t d x s e id in omega (arith, h .0, h .1)
+
+-- .. and a list is as long as in the table.
+pub length-seen : (t : Table) (d : ℕ) (which : Listed) (x : Sight) → Sees t d x → x .sound ≡ true → isDomainId d ≡ true
+    → lengthSeen x which ≡ listLength t d which
+length-seen t d listed.Open x s e id = let h = counts-seen t d x s e id in omega (arith, h .0)
+length-seen t d listed.Closed x s e id = let h = counts-seen t d x s e id in omega (arith, h .0, h .1)

@@ -2,3 +2,4 @@
 pub mod Filling
 pub mod Listing
 pub mod Holdings
+pub mod Asked

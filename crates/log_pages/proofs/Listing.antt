@@ -1,33 +1,167 @@
 -- A list that is filled in descriptor by descriptor.
-use Prim.Native.Nat.{ℕ, zero, suc, _+_, _*_, _≤_}
-use mathlib.Core.Bool.{Bool, true, false}
+use Prim.Native.Nat.{ℕ, zero, suc, _+_, _*_, _/_, _%_, _<_, _≤_}
+use mathlib.Core.Bool.{true, cond}
 use mathlib.Core.List.{List, [], _∷_, _++_, append-assoc, append-nil}
 use mathlib.Core.Path.{_≡_, refl, sym, ap, _∙_}
 use native.Mathlib.Nat.{zero-add}
 use native.Mathlib.Numerals.{add-one}
 use native.Mathlib.Omega.{arith}
+use lib.Dec.{eqb}
 use lib.ListN.{length, length-append}
+use borrow.Author.Tests.{eq-eqb, ne-eqb}
+use Rattle.geometry.proofs.Laws.Shape.{both, by-test}
 use Rattle.geometry.specs.Bytes.{littleEndian}
 use Rattle.log_pages.proofs.Filling.{Filled}
-use Rattle.rules.proofs.Drive.{fill-then}
-use Rattle.log_pages.specs.LogPages.{descriptorOf, isListed, listedBytes, markOf}
+use Rattle.log_pages.specs.LogPages.{codeAt, descriptorOf, markedBytes, markedTo}
 use Rattle.model.specs.declared.block.Block.{Block}
+use Rattle.model.specs.declared.block.State.{State}
+use Rattle.model.specs.declared.block.State.the-variants as state
+use Rattle.model.specs.declared.block.Way.the-variants.{Erase, Placement}
 use Rattle.model.specs.declared.command.Command.the-variants.{List as Listing}
 use Rattle.model.specs.declared.command.Listed.{Listed}
 use Rattle.model.specs.declared.command.Listed.the-variants.{Closed, Open}
 use Rattle.model.specs.declared.table.Table.{Table}
-use Rattle.rules.proofs.Counting.{by-eq, length-numbers, numbers-once}
+use Rattle.rules.proofs.Counting.{by-eq, clash, numbers-once}
+use Rattle.rules.proofs.Drive.{fill-then}
 use Rattle.rules.proofs.LogPages.{closed-list-length, open-list-length}
 use Rattle.rules.proofs.Store.{length-overwritten}
-use Rattle.rules.specs.Counting.{countTo, numbersTo, sumTo}
-use Rattle.rules.specs.Drive.{blockAt, openOf, overwritten, size}
+use Rattle.rules.specs.Counting.{numbersTo}
+use Rattle.rules.specs.Drive.{blockAt, heldBy, isClosed, isClosedState, isOpen, isOpenState, openOf, overwritten, size}
 use Rattle.rules.specs.Effects.{Fills}
-use Rattle.rules.specs.LogPages.{closedList, descriptor, endMark, listLength, listOf, wearIndex}
+use Rattle.rules.specs.LogPages.{closedList, descriptor, endMark, integrity, listLength, listOf, openMark, stateByte, wearIndex}
+use Rattle.survey.specs.Pass.{isListed, listMark, listMarkIn}
+use Rattle.survey.specs.Sight.{SeesList}
+use Rattle.survey.specs.declared.sight.Sight.{Sight}
 
--- ---- Descriptors
+-- ---- A list on the way
+
+-- The end mark has a descriptor's fields, ..
+end-fields : endMark ≡ descriptorOf 4294967295 0 0
+unfolding littleEndian
+end-fields = refl
+
+-- .. and so 8 bytes, as any such fields have.
+fields-length : (n index mark : ℕ) → length (descriptorOf n index mark) ≡ 8
+unfolding littleEndian
+fields-length n index mark = refl
+
+-- Fewer blocks have no more descriptors.
+marked-le : (marks : List ℕ) (n m : ℕ) → n ≤ m → length (markedTo marks n) ≤ length (markedTo marks m)
+unfolding markedTo
+marked-le marks n zero l = let e : n ≡ 0 = omega arith in rw e (omega arith)
+marked-le marks n (suc m) l =
+    by-eq n (suc m)
+    (λ e. rw e (omega arith))
+    (λ e. omega (arith, marked-le marks n m (omega arith), length-append (markedTo marks m) (cond (eqb (codeAt marks m) 0) [] (descriptorOf m (codeAt marks m / 16) (codeAt marks m % 16)))))
+
+-- Of so many blocks, the descriptors of those below n stand at the front, and the next comes behind them.
+pub record Begun (marks : List ℕ) (blocks n at : ℕ) (first bytes : List ℕ) : Type 0 where
+  pub filled : Filled 0 at (markedTo marks n) first bytes
+  pub below : n ≤ blocks
+
+-- At first there are none.
+pub begun : (marks : List ℕ) (blocks : ℕ) (first : List ℕ) → Begun marks blocks 0 0 first first
+unfolding markedTo overwritten
+begun marks blocks first = record { filled = record { are = refl; long = refl }; below = omega arith }
+
+-- What is filled in behind what stands at the front stands there too.
+behind : {k : ℕ} {row first bytes last : List ℕ} (new : List ℕ) → Filled 0 k row first bytes → last ≡ overwritten k new bytes
+    → last ≡ overwritten 0 (row ++ new) first
+behind {k} {row} {first} new f e =
+    e ∙ rw (f .are, ← f .long, ← zero-add (length row)) (fill-then 0 row new first (omega arith))
+
+-- A block that is listed brings one descriptor, ..
+pub listed-more : {marks : List ℕ} {blocks n at : ℕ} {first bytes last : List ℕ} → Begun marks blocks n at first bytes
+    → n + 1 ≤ blocks
+    → ¬ (codeAt marks n ≡ 0)
+    → last ≡ overwritten at (descriptorOf n (codeAt marks n / 16) (codeAt marks n % 16)) bytes
+    → Begun marks blocks (n + 1) (at + 8) first last
+unfolding markedTo
+listed-more {marks} {blocks} {n} {at} {first} b l p e =
+    let code = codeAt marks n in
+    record {
+      filled = record {
+        are = behind (descriptorOf n (code / 16) (code % 16)) (b .filled) e ∙ rw (add-one, ne-eqb code 0 p);
+        long = rw (add-one, ne-eqb code 0 p, length-append, b .filled .long, fields-length);
+      };
+      below = l;
+    }
+
+-- .. and one that is not brings none.
+pub none-more : {marks : List ℕ} {blocks n at : ℕ} {first bytes : List ℕ} → Begun marks blocks n at first bytes → n + 1 ≤ blocks
+    → codeAt marks n ≡ 0
+    → Begun marks blocks (n + 1) at first bytes
+unfolding markedTo
+none-more {marks} {blocks} {n} {at} {first} b l p = record {
+  filled = record {
+    are = rw (add-one, eq-eqb (codeAt marks n) 0 p, append-nil) (b .filled .are);
+    long = rw (add-one, eq-eqb (codeAt marks n) 0 p, append-nil) (b .filled .long);
+  };
+  below = l;
+}
+
+-- Where there is room for the whole list there is for one descriptor more, ..
+first-room : {marks : List ℕ} {blocks n at : ℕ} {first bytes : List ℕ} → Begun marks blocks n at first bytes
+    → length (markedBytes marks blocks) ≤ length first
+    → at + 8 ≤ length first
+first-room {marks} {blocks} {n} b l =
+    let end : length endMark ≡ 8 = rw end-fields (fields-length 4294967295 0 0) in
+    omega (arith, b .filled .long, marked-le marks n blocks (b .below), length-append (markedTo marks blocks) endMark, end, l)
+
+-- .. the bytes are as many as they were, ..
+pub same-long : {marks : List ℕ} {blocks n at : ℕ} {first bytes : List ℕ} → Begun marks blocks n at first bytes
+    → length (markedBytes marks blocks) ≤ length first
+    → length bytes ≡ length first
+same-long {marks} {blocks} {n} {at} {first} b l =
+    rw (b .filled .are) (length-overwritten 0 (markedTo marks n) first (omega (arith, b .filled .long, first-room b l)))
+
+-- .. so that there is room among them, ..
+pub room-for : {marks : List ℕ} {blocks n at : ℕ} {first bytes : List ℕ} → Begun marks blocks n at first bytes
+    → length (markedBytes marks blocks) ≤ length first
+    → at + 8 ≤ length bytes
+room-for b l = omega (arith, first-room b l, same-long b l)
+
+-- .. and behind the last comes the end mark.
+pub whole-list : {marks : List ℕ} {blocks n at : ℕ} {first bytes last : List ℕ} → Begun marks blocks n at first bytes
+    → blocks ≤ n
+    → last ≡ overwritten at (descriptorOf 4294967295 0 0) bytes
+    → last ≡ overwritten 0 (markedBytes marks blocks) first
+whole-list {marks} {blocks} {n} b l e =
+    let last : n ≡ blocks = omega (arith, b .below, l) in
+    behind (descriptorOf 4294967295 0 0) (b .filled) e ∙ rw (last, end-fields)
+
+-- ---- The whole list
+
+-- The one byte of a descriptor, and the two lists, both in ascending number.
+abbrev markOf : Listed → Block → ℕ
+markOf Open b = openMark b
+markOf Closed b = integrity b
+
+abbrev listedTo : Table → ℕ → Listed → ℕ → List ℕ
+listedTo t d which n = numbersTo (λ i. isListed which d (blockAt t i)) n
+
+unfoldable pub listedBytes : Table → ℕ → Listed → List ℕ
+listedBytes t d which = listOf t (markOf which) (listedTo t d which (size t))
+
+-- It is what List fills.
+pub fills-list : (t : Table) (d : ℕ) (which : Listed) → Fills (Listing d which) t (listedBytes t d which)
+unfolding listedBytes closedList
+fills-list t d Open = record {
+  order = numbersTo (λ n. openOf d (blockAt t n)) (size t);
+  each-once = numbers-once (λ n. openOf d (blockAt t n)) (size t);
+  descriptors = refl;
+}
+fills-list t d Closed = refl
+
+-- It is as long as question 7 has it.
+pub listed-length : (t : Table) (d : ℕ) (which : Listed) → length (listedBytes t d which) ≡ listLength t d which
+listed-length t d Open = open-list-length t d (listedBytes t d Open) (fills-list t d Open)
+listed-length t d Closed = ap length (fills-list t d Closed) ∙ closed-list-length t d
+
+-- ---- The marks tell the list
 
 -- The descriptors of a list, without the end mark.
-unfoldable pub descriptors : Table → (Block → ℕ) → List ℕ → List ℕ
+unfoldable descriptors : Table → (Block → ℕ) → List ℕ → List ℕ
 descriptors t mark [] = []
 descriptors t mark (n ∷ ns) = descriptor t mark n ++ descriptors t mark ns
 
@@ -48,139 +182,54 @@ one-more t mark (m ∷ ns) n =
     ap (λ (l : List ℕ). descriptor t mark m ++ l) (one-more t mark ns n)
     ∙ sym (append-assoc (descriptor t mark m) (descriptors t mark ns) (descriptor t mark n))
 
--- Each has 8 bytes.
-descriptors-length : (t : Table) (mark : Block → ℕ) (ns : List ℕ) → length (descriptors t mark ns) ≡ 8 * length ns
-unfolding descriptors littleEndian
-descriptors-length t mark [] = refl
-descriptors-length t mark (n ∷ ns) = omega (arith, descriptors-length t mark ns)
+-- A block that is listed has its list's byte for a mark, which is no 0 and fits below the P/E index.
+record Marked (mark byte : ℕ) : Type 0 where
+  same : mark ≡ byte
+  least : 1 ≤ mark
+  most : mark < 16
 
--- The end mark has a descriptor's fields, ..
-end-fields : endMark ≡ descriptorOf 4294967295 0 0
-unfolding littleEndian
-end-fields = refl
+marked : (which : Listed) (d : ℕ) (b : Block) → isListed which d b ≡ true → Marked (listMark b) (markOf which b)
+marked Open d b e = go (b .state) (both (heldBy d b) (isOpen b) e .1)
+  where
+    go : (s : State) → isOpenState s ≡ true → Marked (listMarkIn s) (stateByte s)
+    go state.Free h = clash true refl (sym h)
+    go (state.Open Erase) h = record { same = refl; least = omega arith; most = omega arith }
+    go (state.Open (Placement p)) h = record { same = refl; least = omega arith; most = omega arith }
+    go (state.Closed way) h = clash true refl (sym h)
+marked Closed d b e = go (b .state) (both (heldBy d b) (isClosed b) e .1)
+  where
+    go : (s : State) → isClosedState s ≡ true → Marked (listMarkIn s) (cond (isClosedState s) 1 0)
+    go state.Free h = clash true refl (sym h)
+    go (state.Open way) h = clash true refl (sym h)
+    go (state.Closed way) h = record { same = refl; least = omega arith; most = omega arith }
 
--- .. and so 8 bytes, ..
-end-length : length endMark ≡ 8
-unfolding littleEndian
-end-length = refl
+-- So the descriptors are those that the marks tell, ..
+marked-to : (t : Table) (d : ℕ) (which : Listed) (x : Sight) (marks : List ℕ) → SeesList t d which x marks → x .sound ≡ true
+    → (n : ℕ)
+    → n ≤ size t
+    → markedTo marks n ≡ descriptors t (markOf which) (listedTo t d which n)
+unfolding markedTo descriptors numbersTo
+marked-to t d which x marks s e zero l = refl
+marked-to t d which x marks s e (suc n) l =
+    let before = marked-to t d which x marks s e n (omega arith) in
+    let b = blockAt t n in
+    let code = codeAt marks n in
+    let wear = wearIndex (t .config) (b .erases) in
+    let told = s .codes e n (omega arith) in
+    by-test (isListed which d b)
+    (λ p.
+    let m = marked which d b p in
+    let sum : code ≡ listMark b + 16 * wear = told ∙ rw p in
+    let index : code / 16 ≡ wear = omega (arith, sum, m .most) in
+    let byte : code % 16 ≡ markOf which b = omega (arith, sum, m .most, m .same) in
+    let some : ¬ (code ≡ 0) = λ none. omega (arith, sum, none, m .least) in
+    rw (p, one-more, ne-eqb code 0 some, index, byte, before))
+    (λ p.
+    let none : code ≡ 0 = told ∙ rw p in
+    rw (p, eq-eqb code 0 none, append-nil (markedTo marks n), append-nil (listedTo t d which n)) before)
 
--- .. as any such fields have.
-fields-length : (n index mark : ℕ) → length (descriptorOf n index mark) ≡ 8
-unfolding littleEndian
-fields-length n index mark = refl
-
--- Of fewer numbers no more pass.
-count-le : (p : ℕ → Bool) (n m : ℕ) → n ≤ m → countTo p n ≤ countTo p m
-unfolding sumTo
-count-le p n zero l = let e : n ≡ 0 = omega arith in rw e (omega arith)
-count-le p n (suc m) l =
-    by-eq n (suc m) (λ e. rw e (omega arith)) (λ e. omega (arith, count-le p n m (omega arith)))
-
--- ---- A list on the way
-
--- The numbers below n that are listed.
-abbrev pub listedTo : Table → ℕ → Listed → ℕ → List ℕ
-listedTo t d which n = numbersTo (λ i. isListed which d (blockAt t i)) n
-
--- The descriptors of those stand at the front, and the next comes behind them.
-pub record Begun (t : Table) (d : ℕ) (which : Listed) (n at : ℕ) (first bytes : List ℕ) : Type 0 where
-  pub filled : Filled 0 at (descriptors t (markOf which) (listedTo t d which n)) first bytes
-  pub below : n ≤ size t
-
--- At first there are none.
-pub begun : (t : Table) (d : ℕ) (which : Listed) (first : List ℕ) → Begun t d which 0 0 first first
-unfolding descriptors numbersTo overwritten
-begun t d which first = record { filled = record { are = refl; long = refl }; below = omega arith }
-
--- What is filled in behind what stands at the front stands there too.
-behind : {k : ℕ} {row first bytes last : List ℕ} (new : List ℕ) → Filled 0 k row first bytes → last ≡ overwritten k new bytes
-    → last ≡ overwritten 0 (row ++ new) first
-behind {k} {row} {first} new f e =
-    e ∙ rw (f .are, ← f .long, ← zero-add (length row)) (fill-then 0 row new first (omega arith))
-
--- A block that is listed brings one descriptor, ..
-pub listed-more : {t : Table} {d : ℕ} {which : Listed} {n at : ℕ} {first bytes last : List ℕ} → Begun t d which n at first bytes
-    → n + 1 ≤ size t
-    → isListed which d (blockAt t n) ≡ true
-    → last ≡ overwritten at (descriptorOf n (wearIndex (t .config) (blockAt t n .erases)) (markOf which (blockAt t n))) bytes
-    → Begun t d which (n + 1) (at + 8) first last
-unfolding numbersTo
-listed-more {t} {d} {which} {n} {at} {first} b l p e = record {
-  filled = record {
-    are = behind (descriptor t (markOf which) n) (b .filled) e ∙ rw (add-one, p, one-more);
-    long = rw (add-one, p, one-more, length-append, b .filled .long, fields-length);
-  };
-  below = l;
-}
-
--- .. and one that is not brings none.
-pub none-more : {t : Table} {d : ℕ} {which : Listed} {n at : ℕ} {first bytes : List ℕ} → Begun t d which n at first bytes
-    → n + 1 ≤ size t
-    → isListed which d (blockAt t n) ≡ false
-    → Begun t d which (n + 1) at first bytes
-unfolding numbersTo
-none-more {t} {d} {which} {n} {at} {first} b l p = record {
-  filled = record { are = rw (add-one, p, append-nil) (b .filled .are); long = rw (add-one, p, append-nil) (b .filled .long) };
-  below = l;
-}
-
--- Where there is room for the whole list there is for one descriptor more, ..
-first-room : {t : Table} {d : ℕ} {which : Listed} {n at : ℕ} {first bytes : List ℕ} → Begun t d which n at first bytes
-    → length (listedBytes t d which) ≤ length first
-    → at + 8 ≤ length first
+-- .. and the bytes are the list's.
+pub marked-listed : (t : Table) (d : ℕ) (which : Listed) (x : Sight) (marks : List ℕ) → SeesList t d which x marks → x .sound ≡ true
+    → markedBytes marks (size t) ≡ listedBytes t d which
 unfolding listedBytes
-first-room {t} {d} {which} {n} b l =
-    let listed : ℕ → Bool = λ i. isListed which d (blockAt t i) in
-    let all = listedTo t d which (size t) in
-    let whole : length (listOf t (markOf which) all) ≡ 8 * length all + 8 = rw (with-end, length-append, descriptors-length, end-length) in
-    omega (
-      arith,
-      b .filled .long,
-      count-le listed n (size t) (b .below),
-      length-numbers listed n,
-      length-numbers listed (size t),
-      descriptors-length t (markOf which) (listedTo t d which n),
-      whole,
-      l,
-    )
-
--- .. the bytes are as many as they were, ..
-pub same-long : {t : Table} {d : ℕ} {which : Listed} {n at : ℕ} {first bytes : List ℕ} → Begun t d which n at first bytes
-    → length (listedBytes t d which) ≤ length first
-    → length bytes ≡ length first
-same-long {t} {d} {which} {n} {at} {first} b l =
-    rw (b .filled .are)
-    (length-overwritten 0 (descriptors t (markOf which) (listedTo t d which n)) first (omega (arith, b .filled .long, first-room b l)))
-
--- .. so that there is room among them, ..
-pub room-for : {t : Table} {d : ℕ} {which : Listed} {n at : ℕ} {first bytes : List ℕ} → Begun t d which n at first bytes
-    → length (listedBytes t d which) ≤ length first
-    → at + 8 ≤ length bytes
-room-for b l = omega (arith, first-room b l, same-long b l)
-
--- .. and behind the last comes the end mark.
-pub whole-list : {t : Table} {d : ℕ} {which : Listed} {n at : ℕ} {first bytes last : List ℕ} → Begun t d which n at first bytes
-    → size t ≤ n
-    → last ≡ overwritten at (descriptorOf 4294967295 0 0) bytes
-    → last ≡ overwritten 0 (listedBytes t d which) first
-unfolding listedBytes
-whole-list {t} {d} {which} {n} {at} {first} b l e =
-    let last : n ≡ size t = omega (arith, b .below, l) in
-    behind (descriptorOf 4294967295 0 0) (b .filled) e ∙ rw (with-end, last, end-fields)
-
--- ---- The whole list
-
--- It is what List fills.
-pub fills-list : (t : Table) (d : ℕ) (which : Listed) → Fills (Listing d which) t (listedBytes t d which)
-unfolding listedBytes closedList
-fills-list t d Open = record {
-  order = numbersTo (λ n. openOf d (blockAt t n)) (size t);
-  each-once = numbers-once (λ n. openOf d (blockAt t n)) (size t);
-  descriptors = refl;
-}
-fills-list t d Closed = refl
-
--- It is as long as question 7 has it.
-pub listed-length : (t : Table) (d : ℕ) (which : Listed) → length (listedBytes t d which) ≡ listLength t d which
-listed-length t d Open = open-list-length t d (listedBytes t d Open) (fills-list t d Open)
-listed-length t d Closed = ap length (fills-list t d Closed) ∙ closed-list-length t d
+marked-listed t d which x marks s e = rw (with-end, marked-to t d which x marks s e (size t) (omega arith))

@@ -1,2 +1,2 @@
--- The two lists as they are filled in.
+-- What Page and List ask, and a list as it is made.
 pub mod LogPages

@@ -1,28 +1,47 @@
--- The two lists as the manager fills them in: both in ascending number.
-use Prim.Native.Nat.{ℕ}
-use mathlib.Core.Bool.{Bool}
-use mathlib.Core.List.{List, _++_}
+-- What Page and List ask of what is seen of a table, and a list as it is made from the marks.
+use Prim.Native.Nat.{ℕ, zero, suc, _+_, _-_, _*_, _/_, _%_}
+use mathlib.Core.Bool.{cond}
+use mathlib.Core.List.{List, [], _∷_, _++_}
+use lib.Dec.{eqb, leb}
+use Rattle.geometry.specs.Address.{isBlock, isDomainId}
 use Rattle.geometry.specs.Bytes.{littleEndian}
-use Rattle.model.specs.declared.block.Block.{Block}
+use Rattle.geometry.specs.Questions.{Question, ask}
 use Rattle.model.specs.declared.command.Listed.{Listed}
 use Rattle.model.specs.declared.command.Listed.the-variants.{Closed, Open}
-use Rattle.model.specs.declared.table.Table.{Table}
-use Rattle.rules.specs.Counting.{numbersTo}
-use Rattle.rules.specs.Drive.{blockAt, closedOf, openOf, size}
-use Rattle.rules.specs.LogPages.{integrity, listOf, openMark}
+use Rattle.rules.specs.Drive.{heldBy}
+use Rattle.rules.specs.LogPages.{endMark}
+use Rattle.survey.specs.Marks.{mark}
+use Rattle.survey.specs.declared.sight.Sight.{Sight}
 
--- Whether a block is listed, and the one byte of its descriptor.
-abbrev pub isListed : Listed → ℕ → Block → Bool
-isListed Open d b = openOf d b
-isListed Closed d b = closedOf d b
+-- What Page is asked, with room for so many bytes.
+abbrev pub pageQuestions : Sight → ℕ → ℕ → ℕ → List Question
+pageQuestions x d n room =
+    ask 4 (isDomainId d)
+    ∷ ask 5 (x .domain .exists)
+    ∷ ask 6 (isBlock (x .config) n)
+    ∷ ask 7 (leb 256 room)
+    ∷ ask 9 (heldBy d (x .block))
+    ∷ []
 
-abbrev pub markOf : Listed → Block → ℕ
-markOf Open b = openMark b
-markOf Closed b = integrity b
+-- How many bytes a list fills.
+abbrev pub lengthSeen : Sight → Listed → ℕ
+lengthSeen x Open = 8 * (x .opened + 1)
+lengthSeen x Closed = 8 * (x .held - x .opened + 1)
 
 -- The fields of a descriptor.
 abbrev pub descriptorOf : ℕ → ℕ → ℕ → List ℕ
 descriptorOf n index mark = littleEndian 4 n ++ littleEndian 1 index ++ littleEndian 1 mark ++ littleEndian 2 0
 
-unfoldable pub listedBytes : Table → ℕ → Listed → List ℕ
-listedBytes t d which = listOf t (markOf which) (numbersTo (λ n. isListed which d (blockAt t n)) (size t))
+-- What the marks tell of block n for a list: 0, or its mark and 16 times its P/E index.
+abbrev pub codeAt : List ℕ → ℕ → ℕ
+codeAt marks n = mark marks (576 + n) / 131072
+
+-- The descriptors of the blocks below n that are listed, ascending, ..
+unfoldable pub markedTo : List ℕ → ℕ → List ℕ
+markedTo marks zero = []
+markedTo marks (suc n) =
+    let code = codeAt marks n in markedTo marks n ++ cond (eqb code 0) [] (descriptorOf n (code / 16) (code % 16))
+
+-- .. and the end mark.
+abbrev pub markedBytes : List ℕ → ℕ → List ℕ
+markedBytes marks n = markedTo marks n ++ endMark

@@ -1,59 +1,28 @@
 // List: the open and the Closed blocks of a domain.
-use crate::fields::integrity;
-use crate::fields::state_byte;
-use crate::fields::wear_index;
 use buffers::put_field;
 use model::Answer;
-use model::Block;
 use model::Listed;
 use model::Refusal;
-use model::Table;
-use tables::Survey;
+use survey::Sight;
+use survey::domain_verdict;
 use tables::Verdict;
-use tables::domain_verdict;
-use tables::held_by;
-use tables::is_closed;
-use tables::is_held;
-use tables::is_open;
-use tables::opened_by;
-use tables::surveyed;
-ghost use mathlib.Core.Bool.{true};
 ghost use mathlib.Core.List.{List};
 ghost use mathlib.Core.Path.{_≡_};
 ghost use Prim.Native.Nat.{ℕ, _+_, _≤_};
 ghost use lib.ListN.{length};
-ghost use Rattle.geometry.specs.Address.{isDomainId};
-ghost use Rattle.geometry.specs.Shape.{withinLimits};
-ghost use Rattle.log_pages.specs.LogPages.{descriptorOf, isListed, listedBytes, markOf};
+ghost use Rattle.log_pages.specs.LogPages.{descriptorOf, lengthSeen, markedBytes};
 ghost use Rattle.model.specs.declared.command.Command.the-variants.{List as Listing};
+ghost use Rattle.model.specs.declared.table.Table.{Table};
 ghost use Rattle.rules.specs.Drive.{overwritten};
 ghost use Rattle.rules.specs.Effects.{Serves};
-ghost use Rattle.rules.specs.LogPages.{listLength};
-ghost use Rattle.rules.specs.Soundness.{sound};
+ghost use Rattle.survey.specs.Marks.{markCount};
+ghost use Rattle.survey.specs.Sight.{Sees, SeesList};
 ghost use Rattle.tables.specs.Serving.{answering, drive, served};
-ghost use Rattle.tables.specs.Survey.{Surveyed};
 
-fn is_listed(listed: Listed, domain: u64, block: Block) -> bool
-    ensures { λ r. ⌜ r ≡ isListed listed domain block ⌝ }
-{
-    match listed {
-        Listed::Open => is_held(block, domain) & is_open(block),
-        Listed::Closed => is_held(block, domain) & is_closed(block),
-    }
-}
+// Of the survey's marks: where those of the blocks begin, and what a descriptor is multiplied by in its block's mark.
+const LINKS: usize = 576;
 
-// The one byte of a descriptor.
-fn mark_of(listed: Listed, block: Block) -> u64
-    ensures { λ r. ⌜ r ≡ markOf listed block ⌝ }
-{
-    match listed {
-        Listed::Open => {
-            let state = block.state;
-            state_byte(state)
-        }
-        Listed::Closed => integrity(block),
-    }
-}
+const DESCRIPTOR: u32 = 131072;
 
 // A descriptor, or the end mark.
 fn put_descriptor(bytes: &mut [u8], at: usize, number: u64, index: u64, mark: u64)
@@ -66,61 +35,52 @@ fn put_descriptor(bytes: &mut [u8], at: usize, number: u64, index: u64, mark: u6
     put_field(bytes, at + 6, 2, 0);
 }
 
-// A descriptor for each block that is listed, in ascending number, and the end mark.
-fn put_list(bytes: &mut [u8], table: Table, domain: u64, listed: Listed)
-    requires { ⌜ withinLimits (table .config) ≡ true ⌝ }
-    requires { ⌜ length (listedBytes table domain listed) ≤ length (now bytes) ⌝ }
-    ensures { λ _. ⌜ now (bytes .exit) ≡ overwritten 0 (listedBytes table domain listed) (now (bytes .entry)) ⌝ }
+// A descriptor for each block that the marks list, in ascending number, and the end mark.
+fn put_list(bytes: &mut [u8], marks: &[u32], blocks: usize)
+    requires { ⌜ (blocks ≤ 256) × (length (now marks) ≡ markCount) ⌝ }
+    requires { ⌜ length (markedBytes (now marks) blocks) ≤ length (now bytes) ⌝ }
+    ensures { λ _. ⌜ now (bytes .exit) ≡ overwritten 0 (markedBytes (now (marks .entry)) blocks) (now (bytes .entry)) ⌝ }
 {
-    let config = table.config;
-    let blocks = config.blocks as usize;
     let mut at: usize = 0;
     for n in 0..blocks {
-        let b = table.blocks[n];
-        if is_listed(listed, domain, b) {
-            put_descriptor(
-                bytes,
-                at,
-                n as u64,
-                wear_index(config, b.erases),
-                mark_of(listed, b),
-            );
+        let code = marks[LINKS + n] / DESCRIPTOR;
+        if code != 0 {
+            put_descriptor(bytes, at, n as u64, (code / 16) as u64, (code % 16) as u64);
             at += 8;
         }
     }
     put_descriptor(bytes, at, 0xffff_ffff, 0, 0);
 }
 
-// How many bytes a list fills. A sound table's held blocks are open or Closed.
-fn list_length(table: Table, survey: Survey, domain: u64, listed: Listed) -> u64
-    requires { ⌜ Surveyed table survey × (survey .sound ≡ true) ⌝ }
-    requires { ⌜ isDomainId domain ≡ true ⌝ }
-    ensures { λ r. ⌜ r ≡ listLength table domain listed ⌝ }
+// How many bytes a list fills. The blocks that a domain holds are open or Closed.
+fn list_length(sight: Sight, listed: Listed) -> u64
+    requires { ⌜ (sight .opened ≤ sight .held) × (sight .held ≤ 256) ⌝ }
+    ensures { λ r. ⌜ r ≡ lengthSeen sight listed ⌝ }
 {
-    let tally = survey.tally;
-    let opened = opened_by(tally, domain);
+    let opened = sight.opened;
     match listed {
         Listed::Open => 8 * (opened + 1),
-        Listed::Closed => 8 * (held_by(tally, domain) - opened + 1),
+        Listed::Closed => 8 * (sight.held - opened + 1),
     }
 }
 
 // The domain's open or Closed blocks, a descriptor each, and the end mark. Both stand in ascending
 // number.
-pub fn list(table: Table, domain: u64, listed: Listed, bytes: &mut [u8]) -> Answer
-    ensures { λ r. ⌜ ((store words : List ℕ) → Serves (drive table store) (Listing domain listed) words (now (bytes .entry)) (served (answering table r) store words (now (bytes .exit)))) ⌝ }
+pub fn list(sight: Sight, domain: u64, listed: Listed, marks: &[u32], bytes: &mut [u8]) -> Answer
+    requires { ⌜ ((t : Table) × Sees t domain sight × SeesList t domain listed sight (now marks)) ⌝ }
+    requires { ⌜ length (now marks) ≡ markCount ⌝ }
+    ensures { λ r. ⌜ ((t : Table) (store words : List ℕ) → Sees t domain sight → SeesList t domain listed sight (now (marks .entry)) → Serves (drive t store) (Listing domain listed) words (now (bytes .entry)) (served (answering t r) store words (now (bytes .exit)))) ⌝ }
 {
-    let survey = surveyed(table);
-    if !survey.sound {
+    if !sight.sound {
         return Answer::Refused(Refusal::Unsound);
     }
-    match domain_verdict(table, domain) {
+    match domain_verdict(sight, domain) {
         Verdict::No(reason) => Answer::Refused(reason),
         Verdict::Pass => {
-            if (bytes.len() as u64) < list_length(table, survey, domain, listed) {
+            if (bytes.len() as u64) < list_length(sight, listed) {
                 return Answer::Refused(Refusal::Output);
             }
-            put_list(bytes, table, domain, listed);
+            put_list(bytes, marks, sight.config.blocks as usize);
             Answer::Done
         }
     }

@@ -1,2 +1,4 @@
--- What start hands back.
+-- What start hands back, and what serving a command is made of.
 pub mod Starting
+pub mod Subjects
+pub mod Answering

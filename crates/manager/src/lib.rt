@@ -1,12 +1,15 @@
 // The manager: what starts a drive and serves its commands, each function equal to document 01's
 // rules for every table, argument and lent buffer.
 //
-// A command's function puts its questions in 01's order and then makes its change. Each group of
-// commands is a crate of its own; `serve` calls the one that its command asks for.
+// A command is served in three parts: one pass over the table finds all that it asks for, its own function puts its
+// questions in 01's order and says what changes, and that is put into the table.
+mod answering;
 mod serving;
 mod starting;
+mod subjects;
 
 pub use serving::serve;
+pub use serving::serve_in;
 pub use starting::Started;
 pub use starting::start;
 pub use tables::Served;

@@ -1,33 +1,46 @@
 // Serving a command.
-use blocks::close;
-use blocks::erase;
-use blocks::free;
-use domains::change_capacity;
-use domains::create;
-use domains::delete;
-use domains::pulse;
-use log_pages::list;
-use log_pages::page;
+use crate::answering::answered;
+use crate::answering::changed_domains;
+use crate::subjects::begun;
+use lent_blocks::change_blocks;
+use lent_blocks::pass_over;
 use model::Answer;
 use model::Command;
 use model::Table;
-use placements::write_by_placement;
+use survey::prepared;
 use tables::Served;
-use transfers::read;
-use transfers::write_by_block;
 ghost use mathlib.Core.Path.{_≡_};
 ghost use Rattle.rules.specs.Effects.{Serves};
 ghost use Rattle.tables.specs.Serving.{answering, drive, served};
 
-// An answer of a command that leaves the table.
-fn answered(table: Table, answer: Answer) -> Served
-    ensures { λ r. ⌜ r ≡ answering table answer ⌝ }
+// The command's answer; the table is changed in place. Writes and Read fill the words, Page and List the
+// bytes; after a refusal the table and all that is lent hold what they held before.
+pub fn serve_in(
+    table: &mut Table,
+    command: Command,
+    store: &mut [u64],
+    words: &mut [u64],
+    bytes: &mut [u8],
+) -> Answer
+    ensures { λ r. ⌜ Serves (drive (now (table .entry)) (now (store .entry))) command (now (words .entry)) (now (bytes .entry)) (served (answering (now (table .exit)) r) (now (store .exit)) (now (words .exit)) (now (bytes .exit))) ⌝ }
 {
-    Served { answer, table }
+    let config = table.config;
+    let domains = table.domains;
+    let begin = begun(config, command);
+    let blocks = begin.blocks;
+    let subject = begin.subject;
+    let first = begin.pass;
+    let mut marks = prepared(domains);
+    let pass = pass_over(&table.blocks[..blocks], subject, first, &mut marks);
+    let outcome = answered(config, domains, pass, &marks, command, store, words, bytes);
+    let change = outcome.change;
+    change_blocks(&mut table.blocks[..blocks], change);
+    let after = changed_domains(domains, change);
+    table.domains = after;
+    outcome.answer
 }
 
-// The command's answer and the table after it. Writes and Read fill the words, Page and List the
-// bytes; after a refusal the table and all that is lent hold what they held before.
+// The same on a table by value: the answer and the table after it.
 pub fn serve(
     table: Table,
     command: Command,
@@ -37,48 +50,10 @@ pub fn serve(
 ) -> Served
     ensures { λ r. ⌜ Serves (drive table (now (store .entry))) command (now (words .entry)) (now (bytes .entry)) (served r (now (store .exit)) (now (words .exit)) (now (bytes .exit))) ⌝ }
 {
-    match command {
-        Command::Create {
-            domain,
-            guarantee,
-            quota,
-            placements,
-            limit,
-        } => { create(table, domain, guarantee, quota, placements, limit) }
-        Command::ChangeCapacity {
-            domain,
-            guarantee,
-            quota,
-        } => { change_capacity(table, domain, guarantee, quota) }
-        Command::Delete { domain } => delete(table, domain),
-        Command::Erase { domain, block } => erase(table, domain, block, store),
-        Command::Close { domain, block } => close(table, domain, block),
-        Command::Free { domain, block } => free(table, domain, block),
-        Command::WriteByPlacement {
-            domain,
-            placement,
-            start,
-            count,
-        } => { write_by_placement(table, domain, placement, start, count, store, words) }
-        Command::WriteByBlock {
-            domain,
-            block,
-            start,
-            count,
-        } => { write_by_block(table, domain, block, start, count, store, words) }
-        Command::Read {
-            domain,
-            address,
-            count,
-            expected,
-        } => {
-            answered(
-                table,
-                read(table, domain, address, count, expected, store, words),
-            )
-        }
-        Command::Page { domain, block } => answered(table, page(table, domain, block, bytes)),
-        Command::List { domain, listed } => answered(table, list(table, domain, listed, bytes)),
-        Command::Pulse { seconds } => pulse(table, seconds),
+    let mut changed = table;
+    let answer = serve_in(&mut changed, command, store, words, bytes);
+    Served {
+        answer,
+        table: changed,
     }
 }

@@ -1,6 +1,10 @@
 -- Laws that the functions' proofs share.
-pub mod Users
-pub mod Begun
-pub mod Onwards
-pub mod Placed
 pub mod Accepted
+pub mod Asked
+pub mod Users
+pub mod Words
+pub mod Stepping
+pub mod Tables
+pub mod Filling
+pub mod Going
+pub mod Placed

@@ -1,148 +1,306 @@
--- A write by placement: into the placement's open block, if it has one, and onwards.
-use Prim.Native.Nat.{ℕ, _+_, _-_, _≤_, _<_, min}
-use mathlib.Core.Bool.{true, true≢false}
-use mathlib.Core.List.{List}
+-- A write by placement: into the open block, if there is one, and onwards from the table that this leaves.
+use Prim.Native.Nat.{ℕ, zero, suc, _+_, _-_, _≤_, _<_, min}
+use mathlib.Core.Bool.{Bool, true, false, true≢false, cond}
+use mathlib.Core.List.{List, [], _∷_, _++_}
 use mathlib.Core.Option.{Option, none, some}
-use mathlib.Core.Path.{_≡_, sym, ap, subst, _∙_}
-use native.Mathlib.Nat.{sub-zero}
+use mathlib.Core.Path.{_≡_, refl, sym, ap, subst, _∙_}
 use native.Mathlib.Omega.{arith}
 use lib.Dec.{ltb}
-use lib.ListN.{drop, length, take}
-use borrow.Author.Tests.{ltb-true}
-use Rattle.geometry.proofs.Laws.Shape.{both}
-use Rattle.geometry.specs.Shape.{adusPerBlock, between}
+use lib.ListN.{drop, getD, length, length-set, length-take, set, take, take-append-drop}
+use lib.Seq.{getD-set-other, getD-set-same, set-out}
+use borrow.Author.Tests.{le-ltb, lt-ltb, ltb-false, ltb-true, ne-eqb}
+use Rattle.geometry.proofs.Laws.Shape.{by-test, is-between, limits}
+use Rattle.geometry.specs.Shape.{adus, adusPerBlock, withinLimits}
+use Rattle.geometry.specs.declared.shape.Adus.{Adus}
+use Rattle.geometry.specs.declared.shape.Config.{Config}
+use Rattle.model.specs.Blocks.{closed, writtenOn}
 use Rattle.model.specs.declared.block.Block.{Block}
 use Rattle.model.specs.declared.block.State.{State}
 use Rattle.model.specs.declared.block.State.the-variants.{Closed, Free, Open}
+use Rattle.model.specs.declared.table.Domain.{Domain}
 use Rattle.model.specs.declared.table.Table.{Table}
-use Rattle.placements.proofs.Begun.{andThen, onwards}
-use Rattle.placements.proofs.Users.{users-left, users-taken}
-use Rattle.placements.specs.Placing.{MayBegin, MayGoOn, MayPlace, blocksFor, writtenFrom}
-use Rattle.rules.proofs.Counting.{all-each, length-row}
-use Rattle.rules.proofs.Kept.Onwards.{OpenTo, open-to}
-use Rattle.rules.proofs.Soundness.{apart}
-use Rattle.rules.specs.Blocks.{Written, newBlocks, roomIn, userAddress, userAddresses, writtenByPlacement, writtenFirst, writtenOnwards}
-use Rattle.rules.specs.Drive.{Drive, blockAt, capacity, isPlacedState, domainAt, openBlock, size}
+use Rattle.placements.proofs.Filling.{chosen-inside, none-inside}
+use Rattle.placements.proofs.Stepping.{placed-both}
+use Rattle.placements.proofs.Tables.{put-config, put-domains, put-none, put-one}
+use Rattle.placements.proofs.Words.{behind, rejoined, wrote-then}
+use Rattle.placements.specs.Placing.{Chooses, ChoosesFirst, MayFill, MayPlace, OpenSeen, Places, andThen, filledTable, intoTable, numberFound, onwards, putIn, roomOf, roomSeen, wentOn}
+use Rattle.placements.specs.declared.placing.Onwards.{Onwards}
+use Rattle.rules.proofs.Counting.{by-eq, clash, length-row}
+use Rattle.rules.proofs.Drive.{overwritten-nothing}
+use Rattle.rules.proofs.Effects.{written-length}
+use Rattle.rules.specs.Blocks.{Written, chosenBlock, chosenTo, roomIn, userAddress, userAddresses, writtenByPlacement, writtenFirst, writtenInto}
+use Rattle.rules.specs.Drive.{Drive, blockAt, clearBlock, domainAt, isFree, isFreeState, overwritten, size, withBlock, withDomain}
 use Rattle.rules.specs.Questions.{userAddressesFit}
-use Rattle.rules.specs.Soundness.{countsKept}
-use Rattle.transfers.specs.Transfers.{MayWrite, Wrote}
+use Rattle.survey.proofs.Choices.{chosen-alike}
+use Rattle.survey.proofs.Seeing.{all-present}
+use Rattle.survey.specs.Sight.{SameFree, foundIn}
+use Rattle.survey.specs.declared.pass.Found.{Found}
+use Rattle.survey.specs.declared.pass.Found.the-variants as found
+use Rattle.survey.specs.declared.sight.Sight.{Sight}
+use Rattle.tables.specs.Changes.{chosen}
+use Rattle.tables.specs.Changing.{changedBlocks, changedBy, changedDomains, noBlock, presentBlocks}
+use Rattle.tables.specs.Serving.{drive}
+use Rattle.tables.specs.declared.change.Change.{Change}
+use Rattle.tables.specs.declared.choice.Choice.{Choice}
+use Rattle.tables.specs.declared.choice.Choice.the-variants.{Block as Chosen}
+use Rattle.transfers.specs.Transfers.{MayWriteIn, Wrote}
 
--- The blocks that are opened are those that what the open block does not take fills or begins.
-pub new-for : (t : Table) (d p count : ℕ) (found : Option ℕ) → openBlock t d p ≡ found
-    → newBlocks t d p count ≡ blocksFor t (count - roomIn t found)
-unfolding newBlocks blocksFor
-new-for t d p count found e = rw e
+-- ---- The open block
 
--- The rules' write, where the placement's open block is found or none is.
-abbrev inTwo : ℕ → ℕ → Drive → Option ℕ → List ℕ → List ℕ → ℕ → Written
-inTwo d p v found these those more =
-    let first = writtenFirst d found these v in andThen first (writtenOnwards d p more those (first .drive))
+-- It may be given what fits it.
+pub may-fill : (x : Sight) (entries d count put : ℕ) → MayPlace x entries d count → put ≡ min count (roomSeen x) → MayFill x entries d put
+may-fill x entries d count put m puts = record {
+  writes = λ n f.
+      let room : roomSeen x ≡ adusPerBlock (x .config) .0 - x .block .written .0 = ap (λ (o : Found). roomOf o (x .config) (x .block)) f in
+      let l = m .open-room n f in
+      record {
+        limits = m .within;
+        id = m .id;
+        inside = m .open-inside n f;
+        entries = m .all-entries;
+        some-written = omega (arith, puts, room, l, m .some-written);
+        fits = omega (arith, puts, room, l);
+      };
+}
 
-placed-is : (d p : ℕ) (users : List ℕ) (v : Drive) (found : Option ℕ) → openBlock (v .table) d p ≡ found
-    → writtenByPlacement d p users v
-    ≡ inTwo d p v found (take (roomIn (v .table) found) users) (drop (roomIn (v .table) found) users)
-    (blocksFor (v .table) (length users - roomIn (v .table) found))
-unfolding writtenByPlacement newBlocks blocksFor
-placed-is d p users v found e = rw e
+-- A write leaves a block that is not Free so, with its P/E count.
+written-same : (x : State) (count capacity : Adus) (b : Block) → b .state ≡ x → isFreeState x ≡ false
+    → (isFree (writtenOn count capacity b) ≡ false) × (writtenOn count capacity b .erases ≡ b .erases)
+unfolding writtenOn closed
+written-same Free count capacity b e f = absurd (true≢false f)
+written-same (Closed way) count capacity b e f = rw e (refl, refl)
+written-same (Open way) count capacity b e f =
+    rw e (by-test (ltb (min (b .written .0 + count .0) (capacity .0)) (capacity .0)) (λ q. rw q (refl, refl)) (λ q. rw q (refl, refl)))
 
--- ---- None is open for the placement
+-- So the choices stay the same.
+record SameChoice (t u : Table) : Type 0 where
+  same-size : size u ≡ size t
+  frees : (i : ℕ) → (isFree (blockAt u i) ≡ isFree (blockAt t i)) × (blockAt u i .erases ≡ blockAt t i .erases)
+  kept : (i : ℕ) → isFree (blockAt t i) ≡ true → blockAt u i ≡ blockAt t i
+  records : length (u .blocks) ≡ length (t .blocks)
+  domains-kept : u .domains ≡ t .domains
 
-module _ {d p count : ℕ} {v : Drive} (may : MayPlace v d p count) (e : openBlock (v .table) d p ≡ none) where
-  -- The whole write goes on.
-  pub none-goes-on : MayGoOn v d count
-  none-goes-on = record {
-    limits = apart (v .table) (may .sound-table) .limits;
-    id = may .id;
-    entries = may .entries;
-    serials =
-        subst (λ (new : ℕ). domainAt (v .table) d .last + new ≤ 4294967295)
-        (new-for (v .table) d p count none e ∙ ap (blocksFor (v .table)) (sub-zero count)) (may .serials);
-  }
+chooses-still : (t u : Table) (d : ℕ) (first second : Choice) → SameChoice t u → Chooses t d first second → Chooses u d first second
+chooses-still t u d first second s c =
+    let same : chosenBlock u ≡ chosenBlock t =
+    ap (λ (k : ℕ). chosenTo u k) (s .same-size) ∙ chosen-alike t u (size t) (size t) (omega arith) (λ i l ne. s .frees i) in
+    record {
+      owned = rw (s .domains-kept) (c .owned);
+      first-is = record {
+        is-chosen = c .first-is .is-chosen ∙ sym same;
+        record-is = λ n erases e.
+            let inside = chosen-inside t n (sym (c .first-is .is-chosen) ∙ ap chosen e) in
+            s .kept n (inside .1) ∙ c .first-is .record-is n erases e;
+        whole = rw (s .same-size, s .records) (c .first-is .whole);
+      };
+      second-is = λ n w is same-size free frees. c .second-is n w is (same-size ∙ s .same-size) free
+          (λ i l ne. let f = frees i (rw (s .same-size) l) ne in (f .0 ∙ s .frees i .0, f .1 ∙ s .frees i .1));
+      second-record = λ n erases e.
+          let was = c .second-record n erases e in
+          s .kept n (ap isFree was) ∙ was;
+      second-none = c .second-none;
+    }
 
-  pub none-placed : (start : ℕ) → writtenByPlacement d p (userAddresses start count) v ≡ onwards d p start count v
-  none-placed start =
-      let users = userAddresses start count in
-      placed-is d p users v none e
-      ∙ ap (λ (k : ℕ). writtenOnwards d p (blocksFor (v .table) k) users v)
-      (sub-zero (length users) ∙ length-row (userAddress start) count)
+-- The table once the open block is written.
+into-same : (t : Table) (x : Sight) (d p : ℕ) (b : Block) → Places t d p x → (n : ℕ) → x .found ≡ found.Block n
+    → (isFree b ≡ false) × (b .erases ≡ blockAt t n .erases) → SameChoice t (intoTable (x .found) b t)
+into-same t x d p b s n f kept =
+    let is : foundIn (x .found) ≡ some n = ap foundIn f in
+    let was = s .held n is in
+    let u : intoTable (x .found) b t ≡ withBlock n b t = ap (λ (o : Found). intoTable o b t) f in
+    rw u record {
+      same-size = refl;
+      frees = λ i. by-eq i n (λ e. rw e (by-test (ltb n (length (t .blocks)))
+          (λ l. let at = getD-set-same (t .blocks) n b clearBlock (ltb-true n (length (t .blocks)) l) in
+          (ap isFree at ∙ kept .0 ∙ sym was, ap (λ (c : Block). c .erases) at ∙ kept .1))
+          (λ l. let out = set-out (t .blocks) n b (ltb-false n (length (t .blocks)) l) in
+          rw out (refl, refl))))
+          (λ ne. let other = getD-set-other (t .blocks) n i b clearBlock ne in (ap isFree other, ap (λ (c : Block). c .erases) other));
+      kept = λ i free. getD-set-other (t .blocks) n i b clearBlock (λ e. clash (isFree (blockAt t i)) free (ap (λ (k : ℕ). isFree (blockAt t k)) e ∙ was));
+      records = length-set (t .blocks) n b;
+      domains-kept = refl;
+    }
 
--- ---- Block n is
+-- ---- Into it
 
--- A block that is open for a placement has room.
-open-room : (c period p : ℕ) (s : State) (b : Block) → isPlacedState p s ≡ true → countsKept c period s b ≡ true → b .written .0 < c
-open-room c period p Free b e k = absurd (true≢false (sym e))
-open-room c period p (Open way) b e k = ltb-true (b .written .0) c (both (ltb (b .written .0) c) (between 1 period (b .left)) k .0)
-open-room c period p (Closed way) b e k = absurd (true≢false (sym e))
+pub into-none : (d : ℕ) (o : Found) (users : List ℕ) (b : Block) (t : Table) (store words : List ℕ) → o ≡ found.Nothing
+    → Wrote (writtenFirst d (foundIn o) users (drive t store)) words (drive (intoTable o b t) store) words
+into-none d o users b t store words e = rw e record { leaves = refl; fills = sym (overwritten-nothing words) }
 
--- The placement has block n open for user addresses.
-pub record Into (d p n start count : ℕ) (v : Drive) : Type 0 where
-  pub may : MayPlace v d p count
-  pub fit : userAddressesFit start count ≡ true
-  pub found : openBlock (v .table) d p ≡ some n
+pub into-one : (d n : ℕ) (o : Found) (users : List ℕ) (b : Block) (t : Table) (store after words filled : List ℕ) → o ≡ found.Block n
+    → Wrote (writtenInto d n users (drive t store)) words (drive (withBlock n b t) after) filled
+    → Wrote (writtenFirst d (foundIn o) users (drive t store)) words (drive (intoTable o b t) after) filled
+into-one d n o users b t store after words filled e w = rw e w
 
-module _ {d p n start count : ℕ} {v : Drive} (o : Into d p n start count v) where
-  -- What the block still takes, and what it is given.
-  abbrev left : ℕ
-  left = roomIn (v .table) (some n)
+-- Its record afterwards is as the rules have it.
+one-kept : (t : Table) (d n : ℕ) (users store middle : List ℕ) (r : Block) → n < length (t .blocks)
+    → drive (withBlock n r t) middle ≡ writtenInto d n users (drive t store) .drive → isFree (blockAt t n) ≡ false
+    → (isFree r ≡ false) × (r .erases ≡ blockAt t n .erases)
+unfolding writtenInto
+one-kept t d n users store middle r l is held =
+    let b = blockAt t n in
+    let new = writtenOn (adus (length users)) (adusPerBlock (t .config)) b in
+    let at : r ≡ new = sym (getD-set-same (t .blocks) n r clearBlock l) ∙ ap (λ (w : Drive). blockAt (w .table) n) is
+    ∙ getD-set-same (t .blocks) n new clearBlock l in
+    let same = written-same (b .state) (adus (length users)) (adusPerBlock (t .config)) b refl held in
+    (ap isFree at ∙ same .0, ap (λ (c : Block). c .erases) at ∙ same .1)
 
-  abbrev put : ℕ
-  put = min count left
+-- ---- Three blocks in the table
 
-  is-open : OpenTo v d p (size (v .table)) (some n)
-  is-open = subst (OpenTo v d p (size (v .table))) (o .found) (open-to v d p (size (v .table)))
+set-taken : {A : Type 0} (n : ℕ) (xs : List A) (i : ℕ) (x : A) → i < n → set (take n xs) i x ≡ take n (set xs i x)
+set-taken zero xs i x l = absurd (omega (arith, l))
+set-taken (suc n) [] i x l = refl
+set-taken (suc n) (y ∷ ys) zero x l = refl
+set-taken (suc n) (y ∷ ys) (suc i) x l = ap (λ zs. y ∷ zs) (set-taken n ys i x (omega (arith, l)))
 
-  has-room : blockAt (v .table) n .written .0 < adusPerBlock (v .table .config) .0
-  has-room =
-      let t = v .table in
-      open-room (adusPerBlock (t .config) .0) (t .config .period) p (blockAt t n .state) (blockAt t n) (is-open .2)
-      (all-each (size t) (λ m. countsKept (capacity t m .0) (t .config .period) (blockAt t m .state) (blockAt t m))
-      (apart t (o .may .sound-table) .counts) n (is-open .0))
+set-dropped : {A : Type 0} (n : ℕ) (xs : List A) (i : ℕ) (x : A) → i < n → drop n (set xs i x) ≡ drop n xs
+set-dropped zero xs i x l = absurd (omega (arith, l))
+set-dropped (suc n) [] i x l = refl
+set-dropped (suc n) (y ∷ ys) zero x l = refl
+set-dropped (suc n) (y ∷ ys) (suc i) x l = set-dropped n ys i x (omega (arith, l))
 
-  -- It may be written into, ..
-  takes : MayWrite v d n put
-  takes = record {
-    limits = apart (v .table) (o .may .sound-table) .limits;
-    id = o .may .id;
-    inside = is-open .0;
-    entries = o .may .entries;
-    some-written = omega (arith, has-room, o .may .some-written);
-    fits = omega (arith, has-room);
-  }
+put-taken : (t : Table) (i : ℕ) (b : Block) (n : ℕ) → size t ≡ n
+    → (set (take n (t .blocks)) i b ≡ take n (putIn i b t .blocks)) × (drop n (t .blocks) ≡ drop n (putIn i b t .blocks))
+unfolding putIn
+put-taken t i b n e = by-test (ltb i (size t))
+    (λ q. let l = ltb-true i (size t) q in
+    rw q (set-taken n (t .blocks) i b (omega (arith, l, e)), sym (set-dropped n (t .blocks) i b (omega (arith, l, e)))))
+    (λ q. let l = ltb-false i (size t) q in
+    rw q (set-out (take n (t .blocks)) i b (rw (length-take n (t .blocks)) (omega (arith, l, e))), refl))
 
-  -- .. and the rest goes on.
-  same-left : count - left ≡ count - put
-  same-left = omega arith
+put-size : (t : Table) (n : ℕ) (b : Block) → size (putIn n b t) ≡ size t
+put-size t n b = ap (λ (c : Config). c .blocks) (put-config t n b)
 
-  rest-goes-on : MayGoOn v d (count - put)
-  rest-goes-on = record {
-    limits = takes .limits;
-    id = o .may .id;
-    entries = o .may .entries;
-    serials =
-        subst (λ (new : ℕ). domainAt (v .table) d .last + new ≤ 4294967295)
-        (new-for (v .table) d p count (some n) (o .found) ∙ ap (blocksFor (v .table)) same-left) (o .may .serials);
-  }
+alike : (c c' : Config) (ds ds' : List Domain) (bs bs' : List Block) → c ≡ c' → ds ≡ ds' → bs ≡ bs'
+    → _≡_ {A = Table} (record { config = c; domains = ds; blocks = bs }) (record { config = c'; domains = ds'; blocks = bs' })
+alike c c' ds ds' bs bs' p q r = rw (p, q, r)
 
-  -- So the write begins in it, ..
-  pub begins-into : (room : ℕ) → room ≡ left → MayBegin v d n room count
-  begins-into room all = rw all record { first = takes; rest = rest-goes-on }
+-- What a write by placement changes.
+abbrev pub placedChange : Found → ℕ → Block → Onwards → Change
+placedChange o d b on = record {
+  first = numberFound o;
+  one = b;
+  second = on .first;
+  two = on .one;
+  third = on .second;
+  three = on .two;
+  domain = d;
+  changed = on .owner;
+  pulses = false;
+  seconds = 0;
+  frees = false;
+}
 
-  -- .. and this is the whole write.
-  are-both : writtenByPlacement d p (userAddresses start count) v ≡ writtenFrom d p n left start count v
-  unfolding writtenFrom
-  are-both =
-      let users = userAddresses start count in
-      let these = userAddresses start put in
-      let those = userAddresses (userAddress start put) (count - put) in
-      placed-is d p users v (some n) (o .found)
-      ∙ ap (λ (us : List ℕ). inTwo d p v (some n) us (drop left users) (blocksFor (v .table) (length users - left))) (users-taken start count left)
-      ∙ ap (λ (us : List ℕ). inTwo d p v (some n) these us (blocksFor (v .table) (length users - left))) (users-left start count left (o .fit))
-      ∙ ap (λ (k : ℕ). inTwo d p v (some n) these those (blocksFor (v .table) k))
-      (ap (λ (k : ℕ). k - left) (length-row (userAddress start) count) ∙ same-left)
+changed-three : (t : Table) (o : Found) (d : ℕ) (b : Block) (on : Onwards) → withinLimits (t .config) ≡ true → ¬ (d ≡ 0)
+    → changedBy (placedChange o d b on) t ≡ wentOn d on (putIn (numberFound o) b t)
+unfolding changedBlocks changedDomains
+changed-three t o d b on within ne =
+    let one = putIn (numberFound o) b t in
+    let two = putIn (on .first) (on .one) one in
+    let three = putIn (on .second) (on .two) two in
+    let n = size t in
+    let size-one : size one ≡ n = put-size t (numberFound o) b in
+    let size-two : size two ≡ n = put-size one (on .first) (on .one) ∙ size-one in
+    let p = put-taken t (numberFound o) b n refl in
+    let q = put-taken one (on .first) (on .one) n size-one in
+    let r = put-taken two (on .second) (on .two) n size-two in
+    let config : t .config ≡ three .config =
+    sym (put-config two (on .second) (on .two) ∙ put-config one (on .first) (on .one) ∙ put-config t (numberFound o) b) in
+    let domains : t .domains ≡ three .domains =
+    sym (put-domains two (on .second) (on .two) ∙ put-domains one (on .first) (on .one) ∙ put-domains t (numberFound o) b) in
+    let blocks : set (set (set (take n (t .blocks)) (numberFound o) b) (on .first) (on .one)) (on .second) (on .two) ++ drop n (t .blocks) ≡ three .blocks =
+    ap (λ (xs : List Block). set (set xs (on .first) (on .one)) (on .second) (on .two) ++ drop n (t .blocks)) (p .0)
+    ∙ ap (λ (xs : List Block). set xs (on .second) (on .two) ++ drop n (t .blocks)) (q .0)
+    ∙ ap (λ (xs : List Block). xs ++ drop n (t .blocks)) (r .0)
+    ∙ ap (λ (ys : List Block). take n (three .blocks) ++ ys) (p .1 ∙ q .1 ∙ r .1)
+    ∙ take-append-drop n (three .blocks) in
+    rw (within, ne-eqb d 0 ne)
+    (alike (t .config) (three .config) (set (t .domains) (d - 1) (on .owner)) (set (three .domains) (d - 1) (on .owner))
+    (set (set (set (take n (t .blocks)) (numberFound o) b) (on .first) (on .one)) (on .second) (on .two) ++ drop n (t .blocks)) (three .blocks)
+    config (ap (λ (ds : List Domain). set ds (d - 1) (on .owner)) domains) blocks)
 
-  pub wrote-into : (room : ℕ) → room ≡ left → (words : List ℕ) (r : Drive) (filled : List ℕ)
-      → Wrote (writtenFrom d p n room start count v) words r filled
-      → Wrote (writtenByPlacement d p (userAddresses start count) v) words r filled
-  wrote-into room all words r filled h =
-      let is : writtenFrom d p n room start count v ≡ writtenFrom d p n left start count v = rw all in
-      subst (λ (x : Written). Wrote x words r filled) (is ∙ sym are-both) h
+-- ---- The whole write
+
+room-same : (t : Table) (x : Sight) (d p : ℕ) → Places t d p x → (o : Found) → x .found ≡ o → roomIn t (foundIn o) ≡ roomSeen x
+room-same t x d p s found.Nothing f = sym (ap (λ (o : Found). roomOf o (x .config) (x .block)) f)
+room-same t x d p s (found.Block n) f =
+    let b = s .seen .open-record n (ap foundIn f) in
+    ap (λ (c : Config). adusPerBlock c .0 - blockAt t n .written .0) (s .same-config)
+    ∙ ap (λ (c : Block). adusPerBlock (x .config) .0 - c .written .0) b
+    ∙ sym (ap (λ (o : Found). roomOf o (x .config) (x .block)) f)
+
+first-long : (d : ℕ) (o : Option ℕ) (start put : ℕ) (v : Drive) → (o ≡ none → put ≡ 0)
+    → length (writtenFirst d o (userAddresses start put) v .addresses) ≡ put
+first-long d none start put v z = sym (z refl)
+first-long d (some n) start put v z = written-length d n (userAddresses start put) v ∙ length-row (userAddress start) put
+
+-- The table that is left by the open block, and that it still chooses the same.
+record Left (t u : Table) (x : Sight) (d : ℕ) (b : Block) : Type 0 where
+  is-put : u ≡ putIn (numberFound (x .found)) b t
+  same-config : u .config ≡ x .config
+  same-owner : domainAt u d ≡ x .domain
+  chooses : Chooses u d (x .first) (x .second)
+
+left-by : (t : Table) (x : Sight) (d p start put count entries : ℕ) (b : Block) (store middle : List ℕ) → Places t d p x → MayPlace x entries d count
+    → drive (intoTable (x .found) b t) middle ≡ writtenFirst d (foundIn (x .found)) (userAddresses start put) (drive t store) .drive
+    → (o : Found) → x .found ≡ o → Left t (intoTable (x .found) b t) x d b
+left-by t x d p start put count entries b store middle s m is found.Nothing f =
+    let within : withinLimits (t .config) ≡ true = ap withinLimits (s .same-config) ∙ m .within in
+    let u : intoTable (x .found) b t ≡ t = ap (λ (o : Found). intoTable o b t) f in
+    let n : numberFound (x .found) ≡ noBlock = ap numberFound f in
+    subst (λ (y : Table). Left t y x d b) (sym u)
+    record {
+      is-put = sym (ap (λ (k : ℕ). putIn k b t) n ∙ put-none t noBlock b (none-inside t within));
+      same-config = s .same-config;
+      same-owner = s .same-owner;
+      chooses = s .choices;
+    }
+left-by t x d p start put count entries b store middle s m is (found.Block n) f =
+    let u : intoTable (x .found) b t ≡ withBlock n b t = ap (λ (o : Found). intoTable o b t) f in
+    let inside : n < size t = rw (s .same-config) (m .open-inside n f) in
+    let held = s .held n (ap foundIn f) in
+    let whole = s .choices .first-is .whole in
+    let writes : drive (withBlock n b t) middle ≡ writtenInto d n (userAddresses start put) (drive t store) .drive =
+    ap (λ (y : Table). drive y middle) (sym u) ∙ is ∙ ap (λ (o : Found). writtenFirst d (foundIn o) (userAddresses start put) (drive t store) .drive) f in
+    let kept = one-kept t d n (userAddresses start put) store middle b (omega (arith, inside, whole)) writes held in
+    let same = into-same t x d p b s n f kept in
+    record {
+      is-put = u ∙ sym (ap (λ (k : ℕ). putIn k b t) (ap numberFound f) ∙ put-one t n b inside);
+      same-config = ap (λ (y : Table). y .config) u ∙ s .same-config;
+      same-owner = ap (λ (y : Table). domainAt y d) u ∙ s .same-owner;
+      chooses = chooses-still t (intoTable (x .found) b t) d (x .first) (x .second) same (s .choices);
+    }
+
+pub placed-wrote : (t : Table) (x : Sight) (d p start count put rest next entries : ℕ) (b : Block) (on : Onwards) (store middle last words filled part : List ℕ)
+    → Places t d p x → MayPlace x entries d count → userAddressesFit start count ≡ true
+    → put ≡ min count (roomSeen x) → rest ≡ count - put → next ≡ userAddress start put
+    → Wrote (writtenFirst d (foundIn (x .found)) (userAddresses start put) (drive t store)) words (drive (intoTable (x .found) b t) middle) filled
+    → ((u : Table) → u .config ≡ x .config → domainAt u d ≡ x .domain → Chooses u d (x .first) (x .second)
+    → Wrote (onwards d p next rest (drive u middle)) (behind put filled) (drive (wentOn d on u) last) part)
+    → Wrote (writtenByPlacement d p (userAddresses start count) (drive t store)) words (drive (changedBy (placedChange (x .found) d b on) t) last) (rejoined put filled part)
+placed-wrote t x d p start count put rest next entries b on store middle last words filled part s m fit puts rests nexts first onwards-wrote =
+    let v = drive t store in
+    let o = foundIn (x .found) in
+    let u = intoTable (x .found) b t in
+    let left = left-by t x d p start put count entries b store middle s m (first .leaves) (x .found) refl in
+    let room : roomIn t o ≡ roomSeen x = room-same t x d p s (x .found) refl in
+    let put-is : put ≡ min count (roomIn t o) = puts ∙ ap (min count) (sym room) in
+    let second = onwards-wrote u (left .same-config) (left .same-owner) (left .chooses) in
+    let one = writtenFirst d o (userAddresses start put) v in
+    let two = onwards d p (userAddress start put) (count - put) (one .drive) in
+    let both : writtenByPlacement d p (userAddresses start count) v ≡ andThen one two =
+    placed-both d p start count v o (sym (s .is-open)) fit
+    ∙ ap (λ (k : ℕ). andThen (writtenFirst d o (userAddresses start k) v) (onwards d p (userAddress start k) (count - k) (writtenFirst d o (userAddresses start k) v .drive))) (sym put-is) in
+    let is-second : onwards d p next rest (drive u middle) ≡ two =
+    ap (λ (k : ℕ). onwards d p k rest (drive u middle)) nexts
+    ∙ ap (λ (k : ℕ). onwards d p (userAddress start put) k (drive u middle)) rests
+    ∙ ap (λ (w : Drive). onwards d p (userAddress start put) (count - put) w) (first .leaves) in
+    let within : withinLimits (t .config) ≡ true = ap withinLimits (s .same-config) ∙ m .within in
+    let id = is-between 1 16 d (m .id) in
+    let same : wentOn d on u ≡ changedBy (placedChange (x .found) d b on) t =
+    ap (wentOn d on) (left .is-put) ∙ sym (changed-three t (x .found) d b on within (λ z. omega (arith, z, id .least))) in
+    let long = first-long d o start put v (λ z. put-is ∙ ap (λ (k : Option ℕ). min count (roomIn t k)) z ∙ omega arith) in
+    subst (λ (w : Written). Wrote w words (drive (changedBy (placedChange (x .found) d b on) t) last) (rejoined put filled part)) (sym both)
+    (subst (λ (r : Table). Wrote (andThen one two) words (drive r last) (rejoined put filled part)) same
+    (wrote-then one two words filled put (drive (wentOn d on u) last) part (first .fills) long
+    (subst (λ (w : Written). Wrote w (behind put filled) (drive (wentOn d on u) last) part) is-second second)))

@@ -1,2 +1,3 @@
--- What Write by placement's functions hand on to each other.
+-- What Write by placement is asked, and what its functions hand on to each other.
+pub mod Asking
 pub mod Placing

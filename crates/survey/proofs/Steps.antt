@@ -336,9 +336,12 @@ module _ {t : Table} {n : ℕ} {s : Subject} {ok : Bool} {m after : List ℕ} (k
   unfolding slotNew
   slot-tested = r .takes .first ∙ by-eq x 256
       (λ p. rw (p, off (not (allTo (λ i. not (eqb (placementSlot (blockAt t i)) 256)) n))))
-      (λ p. rw (ne-eqb x 256 p, lt-ltb x 256 (omega (arith, slot-most b)),
-      r .counts .others (64 + x) (λ q. omega (arith, q, few)) (λ q. omega (arith, q, few)),
-      w .taken x (omega (arith, slot-most b))) (mark-tells (allTo (λ i. not (eqb (placementSlot (blockAt t i)) x)) n)))
+      (λ p. rw (
+        ne-eqb x 256 p,
+        lt-ltb x 256 (omega (arith, slot-most b)),
+        r .counts .others (64 + x) (λ q. omega (arith, q, few)) (λ q. omega (arith, q, few)),
+        w .taken x (omega (arith, slot-most b)),
+      ) (mark-tells (allTo (λ i. not (eqb (placementSlot (blockAt t i)) x)) n)))
     where
       off : (c : Bool) → not (c && false) ≡ true
       off true = refl

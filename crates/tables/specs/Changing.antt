@@ -26,11 +26,17 @@ noBlock = 4294967295
 
 abbrev pub noChange : Change
 noChange = record {
-  first = noBlock; one = clearBlock;
-  second = noBlock; two = clearBlock;
-  third = noBlock; three = clearBlock;
-  domain = 0; changed = clearDomain;
-  pulses = false; seconds = 0; frees = false;
+  first = noBlock;
+  one = clearBlock;
+  second = noBlock;
+  two = clearBlock;
+  third = noBlock;
+  three = clearBlock;
+  domain = 0;
+  changed = clearDomain;
+  pulses = false;
+  seconds = 0;
+  frees = false;
 }
 
 -- An answer that changes nothing.
@@ -40,11 +46,17 @@ leaving answer = record { answer = answer; change = noChange }
 -- A block's new record and a domain's, ..
 abbrev pub openingChange : ℕ → Block → ℕ → Domain → Change
 openingChange n b d r = record {
-  first = n; one = b;
-  second = noBlock; two = clearBlock;
-  third = noBlock; three = clearBlock;
-  domain = d; changed = r;
-  pulses = false; seconds = 0; frees = false;
+  first = n;
+  one = b;
+  second = noBlock;
+  two = clearBlock;
+  third = noBlock;
+  three = clearBlock;
+  domain = d;
+  changed = r;
+  pulses = false;
+  seconds = 0;
+  frees = false;
 }
 
 -- .. or one of them alone.
@@ -57,21 +69,33 @@ domainChange d r = openingChange noBlock clearBlock d r
 -- A domain's blocks are freed and its record is cleared.
 abbrev pub deletionOf : ℕ → Change
 deletionOf d = record {
-  first = noBlock; one = clearBlock;
-  second = noBlock; two = clearBlock;
-  third = noBlock; three = clearBlock;
-  domain = d; changed = clearDomain;
-  pulses = false; seconds = 0; frees = true;
+  first = noBlock;
+  one = clearBlock;
+  second = noBlock;
+  two = clearBlock;
+  third = noBlock;
+  three = clearBlock;
+  domain = d;
+  changed = clearDomain;
+  pulses = false;
+  seconds = 0;
+  frees = true;
 }
 
 -- Seconds pass for every open block.
 abbrev pub pulseChange : ℕ → Change
 pulseChange seconds = record {
-  first = noBlock; one = clearBlock;
-  second = noBlock; two = clearBlock;
-  third = noBlock; three = clearBlock;
-  domain = 0; changed = clearDomain;
-  pulses = true; seconds = seconds; frees = false;
+  first = noBlock;
+  one = clearBlock;
+  second = noBlock;
+  two = clearBlock;
+  third = noBlock;
+  three = clearBlock;
+  domain = 0;
+  changed = clearDomain;
+  pulses = true;
+  seconds = seconds;
+  frees = false;
 }
 
 -- ---- What they do

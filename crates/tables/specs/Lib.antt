@@ -1,6 +1,5 @@
 -- What the functions of this crate hand on, and what those above hand back, in the rules' terms.
 pub mod Serving
 pub mod Verdicts
-pub mod Survey
 pub mod Changes
 pub mod Changing

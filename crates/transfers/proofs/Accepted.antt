@@ -1,10 +1,10 @@
--- What a Write by block and a Read may count on once their questions are answered yes, and what a Read then hands back.
+-- What a Write by block and a Read may count on once their questions are answered yes, and what they then hand back.
 use Prim.Native.Nat.{ℕ, _+_, _≤_, _<_}
 use mathlib.Core.Bool.{true, _&&_}
-use mathlib.Core.List.{List, []}
+use mathlib.Core.List.{List, [], _++_}
 use mathlib.Core.Path.{_≡_, refl, sym, ap, _∙_}
-use native.Mathlib.Omega.{arith}
-use lib.ListN.{drop, length, take}
+use lib.Dec.{leb}
+use lib.ListN.{drop, take}
 use borrow.Author.Tests.{eqb-true, leb-true, ltb-true}
 use Rattle.geometry.proofs.Laws.Questions.{positive}
 use Rattle.geometry.proofs.Laws.Shape.{both, by-test, is-between}
@@ -13,68 +13,103 @@ use Rattle.geometry.specs.Questions.{firstNo}
 use Rattle.geometry.specs.Shape.{adusPerBlock, storeLength, withinLimits}
 use Rattle.geometry.specs.declared.address.FlashAddress.{FlashAddress}
 use Rattle.geometry.specs.declared.shape.Adus.{Adus}
-use Rattle.tables.proofs.Answering.{accepted-call, later-no, sound-verdict, two-parts}
-use Rattle.tables.proofs.Refusals.{first-stays}
-use Rattle.transfers.specs.Transfers.{MayWrite, ReadsStretch}
-use Rattle.tables.specs.Serving.{answering, refusing, served}
-use Rattle.tables.specs.Verdicts.{thenNumber}
+use Rattle.geometry.specs.declared.shape.Config.{Config}
 use Rattle.model.specs.Answers.{numberOf}
 use Rattle.model.specs.declared.answer.Answer.{Answer}
 use Rattle.model.specs.declared.answer.Answer.the-variants.{Done, Refused}
 use Rattle.model.specs.declared.answer.Refusal.{Refusal}
 use Rattle.model.specs.declared.answer.Refusal.the-variants.{Mismatch}
+use Rattle.model.specs.declared.block.Block.{Block}
 use Rattle.model.specs.declared.command.Command.the-variants.{Read, WriteByBlock}
+use Rattle.model.specs.declared.table.Table.{Table}
 use Rattle.rules.proofs.Drive.{overwritten-nothing}
-use Rattle.rules.proofs.Kept.Tested.{facts-of}
-use Rattle.rules.proofs.Noninterference.Reads.{written-most}
-use Rattle.rules.proofs.Questions.{answered-yes, yes-at}
-use Rattle.rules.proofs.Soundness.{apart}
-use Rattle.rules.specs.Blocks.{matches, stored}
-use Rattle.rules.specs.Drive.{Drive, blockAt, capacity, overwritten, size}
-use Rattle.rules.specs.Effects.{Serves, effect, lengthsOf, verdict}
+use Rattle.rules.proofs.Questions.{yes-at}
+use Rattle.rules.specs.Blocks.{matches, stored, userAddresses, writtenInto}
+use Rattle.rules.specs.Drive.{Drive, overwritten, size, withBlock}
+use Rattle.rules.specs.Effects.{Serves, effect, lengthsOf}
 use Rattle.rules.specs.Questions.{isCount, questions, userAddressesFit}
 use Rattle.rules.specs.Soundness.{sound}
+use Rattle.survey.proofs.Seeing.{changed-block, sound-limits}
+use Rattle.survey.specs.declared.sight.Sight.{Sight}
+use Rattle.tables.proofs.Answering.{accepted-call, later-no, sound-verdict, two-parts}
+use Rattle.tables.proofs.Refusals.{first-stays}
+use Rattle.tables.specs.Changing.{blockChange, outcomeServed}
+use Rattle.tables.specs.Serving.{answering, drive, refusing, served}
+use Rattle.tables.specs.Verdicts.{thenNumber}
+use Rattle.transfers.specs.Transfers.{MayWriteIn, ReadsStretch, Wrote, readArguments, readState, writeArguments, writeState}
 
 -- ---- Write by block
 
--- An accepted write may be done, ..
-pub may-write : (v : Drive) (words bytes : List ℕ) (d n start : ℕ) (count : Adus)
-    → verdict v (lengthsOf v words bytes) (WriteByBlock d n start count) ≡ 0 → MayWrite v d n (count .0)
-unfolding questions
-may-write v words bytes d n start count e =
-    let t = v .table in
-    let lent = lengthsOf v words bytes in
-    let k = WriteByBlock d n start count in
-    let range = both (isBlock (t .config) n) (isCount count) (answered-yes v lent k 4 e) in
+-- A write whose questions are answered yes may be done, ..
+pub may-write : (x : Sight) (entries room d n start : ℕ) (count : Adus) → withinLimits (x .config) ≡ true
+    → firstNo (writeArguments x entries room d n count ++ writeState x d start count) ≡ 0
+    → MayWriteIn (x .config) entries d n (x .block) (count .0)
+unfolding positive writeArguments writeState
+may-write x entries room d n start count within e =
+    let qs = writeArguments x entries room d n count ++ writeState x d start count in
+    let range = both (isBlock (x .config) n) (isCount count) (yes-at 3 qs refl e) in
     record {
-      limits = apart t (answered-yes v lent k 0 e) .limits;
-      id = answered-yes v lent k 2 e;
-      inside = ltb-true n (size t) (range .0);
-      entries = eqb-true (length (v .store)) (storeLength (t .config) .0) (answered-yes v lent k 1 e);
+      limits = within;
+      id = yes-at 1 qs refl e;
+      inside = ltb-true n (x .config .blocks) (range .0);
+      entries = eqb-true entries (storeLength (x .config) .0) (yes-at 0 qs refl e);
       some-written = is-between 1 256 (count .0) (range .1) .least;
-      fits = leb-true (blockAt t n .written .0 + count .0) (capacity t n .0) (answered-yes v lent k 9 e);
+      fits = leb-true (x .block .written .0 + count .0) (adusPerBlock (x .config) .0) (yes-at 8 qs refl e);
     }
 
 -- .. its user addresses can be told, and there is room for its words.
-pub write-fits : (v : Drive) (words bytes : List ℕ) (d n start : ℕ) (count : Adus)
-    → verdict v (lengthsOf v words bytes) (WriteByBlock d n start count) ≡ 0
-    → (userAddressesFit start (count .0) ≡ true) × (count .0 ≤ length words)
-unfolding questions
-write-fits v words bytes d n start count e =
-    let lent = lengthsOf v words bytes in
+pub write-fits : (x : Sight) (entries room d n start : ℕ) (count : Adus)
+    → firstNo (writeArguments x entries room d n count ++ writeState x d start count) ≡ 0
+    → (userAddressesFit start (count .0) ≡ true) × (count .0 ≤ room)
+unfolding positive writeArguments writeState
+write-fits x entries room d n start count e =
+    let qs = writeArguments x entries room d n count ++ writeState x d start count in
+    (yes-at 5 qs refl e, leb-true (count .0) room (yes-at 4 qs refl e))
+
+-- The block's new record and what was put into the store and the words are what it hands back.
+pub write-done : (t : Table) (store words bytes : List ℕ) (d n start : ℕ) (count : Adus) (b : Block) (after filled : List ℕ) → sound t ≡ true
+    → n < size t
+    → firstNo (drop 1 (questions (drive t store) (lengthsOf (drive t store) words bytes) (WriteByBlock d n start count))) ≡ 0
+    → Wrote (writtenInto d n (userAddresses start (count .0)) (drive t store)) words (drive (withBlock n b t) after) filled
+    → Serves (drive t store) (WriteByBlock d n start count) words bytes
+    (served (outcomeServed t (record { answer = Done; change = blockChange n b })) after filled bytes)
+unfolding effect
+write-done t store words bytes d n start count b after filled whole l e wrote =
+    let v = drive t store in
     let k = WriteByBlock d n start count in
-    (answered-yes v lent k 6 e, leb-true (count .0) (length words) (answered-yes v lent k 5 e))
+    rw (changed-block t n b (sound-limits t whole) l)
+    (accepted-call v k words bytes (served (answering (withBlock n b t) Done) after filled bytes) []
+    (sound-verdict v (lengthsOf v words bytes) k whole ∙ e)
+    refl (wrote .leaves) (wrote .fills) refl (sym (overwritten-nothing bytes)))
 
 -- ---- Read
 
 -- What a Read may count on before it looks at the store.
-pub record MayRead (v : Drive) (words : List ℕ) (a : FlashAddress) (count expected : ℕ) : Type 0 where
-  pub limits : withinLimits (v .table .config) ≡ true
-  pub inside : a .block < size (v .table)
-  pub entries : length (v .store) ≡ storeLength (v .table .config) .0
-  pub extent : a .offset .0 + count ≤ adusPerBlock (v .table .config) .0
-  pub room : count ≤ length words
+pub record MayRead (c : Config) (length room : ℕ) (a : FlashAddress) (count expected : ℕ) : Type 0 where
+  pub limits : withinLimits c ≡ true
+  pub inside : a .block < c .blocks
+  pub entries : length ≡ storeLength c .0
+  pub extent : a .offset .0 + count ≤ adusPerBlock c .0
+  pub words : count ≤ room
   pub fits : userAddressesFit expected count ≡ true
+
+-- Where every question but the last is answered yes, it may.
+pub may-read : (x : Sight) (entries room d : ℕ) (a : FlashAddress) (count : Adus) (expected : ℕ) → withinLimits (x .config) ≡ true
+    → firstNo (readArguments x entries room d a count ++ readState x d a count expected) ≡ 0
+    → MayRead (x .config) entries room a (count .0) expected
+unfolding positive readArguments readState
+may-read x entries room d a count expected within e =
+    let qs = readArguments x entries room d a count ++ readState x d a count expected in
+    let range = both (isBlock (x .config) (a .block) && isOffset (x .config) (a .offset)) (isCount count) (yes-at 3 qs refl e) in
+    let end = a .offset .0 + count .0 in
+    record {
+      limits = within;
+      inside = ltb-true (a .block) (x .config .blocks) (both (isBlock (x .config) (a .block)) (isOffset (x .config) (a .offset)) (range .0) .0);
+      entries = eqb-true entries (storeLength (x .config) .0) (yes-at 0 qs refl e);
+      extent = leb-true end (adusPerBlock (x .config) .0) (both (leb end (x .block .written .0)) (leb end (adusPerBlock (x .config) .0)) (yes-at 7 qs refl e) .1);
+      words = leb-true (count .0) room (yes-at 4 qs refl e);
+      fits = yes-at 5 qs refl e;
+    }
 
 -- A no before question 16 stays.
 pub read-no : (v : Drive) (words bytes : List ℕ) (d address : ℕ) (count : Adus) (expected : ℕ) (reason : Refusal) → sound (v .table) ≡ true
@@ -89,30 +124,7 @@ read-no v words bytes d address count expected reason whole e =
 
 module _ (v : Drive) (words bytes : List ℕ) (d address : ℕ) (count : Adus) (expected : ℕ) (whole : sound (v .table) ≡ true)
     (e : firstNo (take 8 (drop 1 (questions v (lengthsOf v words bytes) (Read d address count expected)))) ≡ 0) where
-  -- Where every question but the last is answered yes, it may.
-  pub may-read : MayRead v words (fieldsOf (v .table .config) address) (count .0) expected
-  unfolding questions positive
-  may-read =
-      let t = v .table in
-      let a = fieldsOf (t .config) address in
-      let qs = take 8 (drop 1 (questions v (lengthsOf v words bytes) (Read d address count expected))) in
-      let range = both (isBlock (t .config) (a .block) && isOffset (t .config) (a .offset)) (isCount count) (yes-at 3 qs refl e) in
-      let inside = ltb-true (a .block) (size t) (both (isBlock (t .config) (a .block)) (isOffset (t .config) (a .offset)) (range .0) .0) in
-      let b = blockAt t (a .block) in
-      record {
-        limits = apart t whole .limits;
-        inside = inside;
-        entries = eqb-true (length (v .store)) (storeLength (t .config) .0) (yes-at 0 qs refl e);
-        extent = omega (
-          arith,
-          leb-true (a .offset .0 + count .0) (b .written .0) (yes-at 7 qs refl e),
-          written-most t (b .state) b (facts-of v whole .blocks (a .block) inside),
-        );
-        room = leb-true (count .0) (length words) (yes-at 4 qs refl e);
-        fits = yes-at 5 qs refl e;
-      }
-
-  -- Question 16 alone is left.
+  -- Without one, question 16 alone is left.
   last-question : firstNo (drop 1 (questions v (lengthsOf v words bytes) (Read d address count expected)))
       ≡ firstNo (drop 8 (drop 1 (questions v (lengthsOf v words bytes) (Read d address count expected))))
   unfolding thenNumber

@@ -19,12 +19,12 @@ use Rattle.geometry.specs.declared.address.Refusal.{Refusal}
 use Rattle.geometry.specs.declared.address.Refusal.the-variants.{DomainId, Limits, Output, Range}
 use Rattle.geometry.specs.declared.shape.Config.{Config}
 use Rattle.buffers.proofs.UserAddresses.{ones-address, plain-address}
-use Rattle.transfers.specs.Transfers.{MayWrite, addressIn}
+use Rattle.transfers.specs.Transfers.{MayWriteIn, addressIn}
 use Rattle.buffers.specs.Rows.{entryAt}
+use Rattle.model.specs.declared.block.Block.{Block}
 use Rattle.model.specs.declared.table.Table.{Table}
 use Rattle.rules.specs.Blocks.{allOnes, flashAddress, userAddress, userAddresses}
 use Rattle.rules.specs.Counting.{rowTo}
-use Rattle.rules.specs.Drive.{Drive, blockAt}
 
 -- Rows of the same entries are the same.
 row-each : (n : ℕ) (f g : ℕ → ℕ) → ((i : ℕ) → f i ≡ g i) → rowTo f n ≡ rowTo g n
@@ -85,9 +85,9 @@ word-refused c a r e h =
     omega (arith, positive-number r, none)
 
 -- The first ADU that is written has an address of the drive.
-pub first-addressed : (v : Drive) (d n count : ℕ) → MayWrite v d n count
-    → Addressed (v .table .config) (addressIn d n (blockAt (v .table) n .written))
-first-addressed v d n count may = record {
+pub first-addressed : (c : Config) (length d n : ℕ) (b : Block) (count : ℕ) → MayWriteIn c length d n b count
+    → Addressed c (addressIn d n (b .written))
+first-addressed c length d n b count may = record {
   limits = may .limits;
   domain = is-between 1 16 d (may .id);
   block = may .inside;
@@ -95,12 +95,12 @@ first-addressed v d n count may = record {
 }
 
 -- And as many words from it on as are written stay below 2 ^ 64.
-pub words-low : (v : Drive) (d n count : ℕ) → MayWrite v d n count
-    → wordOf (v .table .config) (addressIn d n (blockAt (v .table) n .written)) + count ≤ 18446744073709551616
-words-low v d n count may =
+pub words-low : (c : Config) (length d n : ℕ) (b : Block) (count : ℕ) → MayWriteIn c length d n b count
+    → wordOf c (addressIn d n (b .written)) + count ≤ 18446744073709551616
+words-low c length d n b count may =
     omega (
       arith,
-      word-low (v .table .config) (addressIn d n (blockAt (v .table) n .written)) (first-addressed v d n count may),
+      word-low c (addressIn d n (b .written)) (first-addressed c length d n b count may),
       may .fits,
-      limits (v .table .config) (may .limits) .adus .most,
+      limits c (may .limits) .adus .most,
     )

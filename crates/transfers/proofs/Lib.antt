@@ -1,3 +1,4 @@
 -- Laws that the functions' proofs share.
 pub mod Addresses
+pub mod Asked
 pub mod Accepted

@@ -1,2 +1,2 @@
--- What writes and reads need and leave.
+-- What writes and reads are asked and need, and what they leave.
 pub mod Transfers

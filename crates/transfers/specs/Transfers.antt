@@ -1,27 +1,73 @@
--- What a write into a block needs, and what writes and reads of a stretch leave.
+-- What writes and reads are asked and need, and what they leave.
 use Prim.Native.Nat.{ℕ, _+_, _≤_, _<_}
-use mathlib.Core.Bool.{true, cond}
-use mathlib.Core.List.{List}
+use mathlib.Core.Bool.{true, _&&_, cond}
+use mathlib.Core.List.{List, [], _∷_}
 use mathlib.Core.Path.{_≡_}
-use lib.ListN.{length}
-use Rattle.geometry.specs.Address.{isDomainId}
-use Rattle.geometry.specs.Shape.{storeLength, withinLimits}
+use lib.Dec.{eqb, leb}
+use Rattle.geometry.specs.Address.{isBlock, isDomainId, isOffset}
+use Rattle.geometry.specs.Questions.{Question, ask}
+use Rattle.geometry.specs.Shape.{adusPerBlock, storeLength, withinLimits}
 use Rattle.geometry.specs.declared.address.FlashAddress.{FlashAddress}
 use Rattle.geometry.specs.declared.shape.Adus.{Adus}
+use Rattle.geometry.specs.declared.shape.Config.{Config}
 use Rattle.model.specs.declared.answer.Answer.{Answer}
 use Rattle.model.specs.declared.answer.Answer.the-variants.{Done, Refused}
 use Rattle.model.specs.declared.answer.Refusal.the-variants.{Mismatch}
+use Rattle.model.specs.declared.block.Block.{Block}
 use Rattle.rules.specs.Blocks.{Written, matches}
-use Rattle.rules.specs.Drive.{Drive, blockAt, capacity, overwritten, size}
+use Rattle.rules.specs.Drive.{Drive, heldBy, isOpenByErase, overwritten}
+use Rattle.rules.specs.Questions.{isCount, userAddressesFit}
+use Rattle.survey.specs.declared.sight.Sight.{Sight}
 
--- What writing so many ADUs into a block needs.
-pub record MayWrite (v : Drive) (d n count : ℕ) : Type 0 where
-  pub limits : withinLimits (v .table .config) ≡ true
+-- ---- The questions, of what is seen of the table
+
+-- A Write by block: 3 to 7, with so many entries and room for so many words, ..
+unfoldable pub writeArguments : Sight → ℕ → ℕ → ℕ → ℕ → Adus → List Question
+writeArguments x entries room d n count =
+    ask 3 (eqb entries (storeLength (x .config) .0))
+    ∷ ask 4 (isDomainId d)
+    ∷ ask 5 (x .domain .exists)
+    ∷ ask 6 (isBlock (x .config) n && isCount count)
+    ∷ ask 7 (leb (count .0) room)
+    ∷ []
+
+-- .. and 8 to 15.
+unfoldable pub writeState : Sight → ℕ → ℕ → Adus → List Question
+writeState x d start count =
+    ask 8 (userAddressesFit start (count .0))
+    ∷ ask 9 (heldBy d (x .block))
+    ∷ ask 10 (isOpenByErase (x .block))
+    ∷ ask 15 (leb (x .block .written .0 + count .0) (adusPerBlock (x .config) .0))
+    ∷ []
+
+-- A Read: 3 to 7, ..
+unfoldable pub readArguments : Sight → ℕ → ℕ → ℕ → FlashAddress → Adus → List Question
+readArguments x entries room d a count =
+    ask 3 (eqb entries (storeLength (x .config) .0))
+    ∷ ask 4 (isDomainId d)
+    ∷ ask 5 (x .domain .exists)
+    ∷ ask 6 (isBlock (x .config) (a .block) && isOffset (x .config) (a .offset) && isCount count)
+    ∷ ask 7 (leb (count .0) room)
+    ∷ []
+
+-- .. and 8 to 15. Of a sound table no block has more written than it takes, so that the last test adds nothing to 15.
+unfoldable pub readState : Sight → ℕ → FlashAddress → Adus → ℕ → List Question
+readState x d a count expected =
+    ask 8 (userAddressesFit expected (count .0))
+    ∷ ask 9 (heldBy d (x .block) && eqb (a .domain) d)
+    ∷ ask 15 (leb (a .offset .0 + count .0) (x .block .written .0) && leb (a .offset .0 + count .0) (adusPerBlock (x .config) .0))
+    ∷ []
+
+-- ---- Writes
+
+-- What writing so many ADUs into a block needs, whose record is b, of a drive with so many entries in its store.
+pub record MayWriteIn (c : Config) (length d n : ℕ) (b : Block) (count : ℕ) : Type 0 where
+  pub limits : withinLimits c ≡ true
   pub id : isDomainId d ≡ true
-  pub inside : n < size (v .table)
-  pub entries : length (v .store) ≡ storeLength (v .table .config) .0
+  pub inside : n < c .blocks
+  pub entries : length ≡ storeLength c .0
   pub some-written : 1 ≤ count
-  pub fits : blockAt (v .table) n .written .0 + count ≤ capacity (v .table) n .0
+  pub fits : b .written .0 + count ≤ adusPerBlock c .0
 
 -- The flash address of an ADU.
 abbrev pub addressIn : ℕ → ℕ → Adus → FlashAddress
@@ -31,6 +77,8 @@ addressIn d n offset = record { domain = d; block = n; offset = offset }
 pub record Wrote (w : Written) (words : List ℕ) (v : Drive) (filled : List ℕ) : Type 0 where
   pub leaves : v ≡ w .drive
   pub fills : filled ≡ overwritten 0 (w .addresses) words
+
+-- ---- Reads
 
 -- Question 16 for a stretch of the store: it is given, or nothing is.
 pub record ReadsStretch (expected : ℕ) (stretch words : List ℕ) (answer : Answer) (filled : List ℕ) : Type 0 where

@@ -3,83 +3,94 @@ use buffers::all_match;
 use buffers::put_stretch;
 use buffers::user_addresses_fit;
 use geometry::Adus;
+use geometry::FlashAddress;
 use geometry::adus_per_block;
 use geometry::stretch_start;
 use geometry::word_fields;
 use model::Answer;
 use model::Refusal;
-use model::Table;
+use survey::Sight;
+use survey::store_verdict;
 use tables::Verdict;
 use tables::ask;
-use tables::block_at;
 use tables::ends_within;
 use tables::is_count;
 use tables::is_held;
-use tables::store_verdict;
-use tables::surveyed;
 ghost use mathlib.Core.Bool.{true};
-ghost use mathlib.Core.List.{List};
+ghost use mathlib.Core.List.{List, _++_};
 ghost use mathlib.Core.Path.{_≡_};
 ghost use Prim.Native.Nat.{ℕ, _+_, _≤_};
 ghost use lib.ListN.{drop, length, take};
+ghost use Rattle.geometry.specs.Address.{fieldsOf};
 ghost use Rattle.geometry.specs.Questions.{firstNo};
+ghost use Rattle.geometry.specs.Shape.{withinLimits};
 ghost use Rattle.model.specs.declared.command.Command.the-variants.{Read};
+ghost use Rattle.model.specs.declared.table.Table.{Table};
 ghost use Rattle.rules.specs.Effects.{Serves};
-ghost use Rattle.rules.specs.Questions.{isCount, questions, userAddressesFit};
-ghost use Rattle.rules.specs.Soundness.{sound};
+ghost use Rattle.rules.specs.Questions.{isCount, userAddressesFit};
+ghost use Rattle.survey.specs.Sight.{Seen, Sees, SeesBlock};
 ghost use Rattle.tables.specs.Serving.{answering, drive, served};
-ghost use Rattle.tables.specs.Verdicts.{lending, verdictNumber};
-ghost use Rattle.transfers.specs.Transfers.{ReadsStretch};
+ghost use Rattle.tables.specs.Verdicts.{verdictNumber};
+ghost use Rattle.transfers.specs.Transfers.{ReadsStretch, readArguments, readState};
 
+// 3 to 7.
 fn read_arguments(
-    table: Table,
+    sight: Sight,
     domain: u64,
-    address: u64,
+    address: FlashAddress,
     count: Adus,
     entries: usize,
     room: usize,
 ) -> Verdict
-    requires { ⌜ sound table ≡ true ⌝ }
-    ensures { λ r. ⌜ ((store : List ℕ) (expected bytes : ℕ) → verdictNumber r ≡ firstNo (take 5 (drop 1 (questions (drive table store) (lending entries room bytes) (Read domain address count expected))))) ⌝ }
+    requires { ⌜ withinLimits (sight .config) ≡ true ⌝ }
+    ensures { λ r. ⌜ verdictNumber r ≡ firstNo (readArguments sight entries room domain address count) ⌝ }
 {
-    let config = table.config;
-    let a = word_fields(config, address);
-    let offset = a.offset;
-    let range = (a.block < config.blocks) & (offset.0 < adus_per_block(config).0) & is_count(count);
-    store_verdict(table, domain, entries)
-        .and(range, Refusal::Range)
+    let config = sight.config;
+    let offset = address.offset;
+    let inside = (address.block < config.blocks) & (offset.0 < adus_per_block(config).0);
+    store_verdict(sight, domain, entries)
+        .and(inside & is_count(count), Refusal::Range)
         .and(count.0 <= room as u64, Refusal::Output)
 }
 
-fn read_state(table: Table, domain: u64, address: u64, count: Adus, expected: u64) -> Verdict
-    requires { ⌜ sound table ≡ true ⌝ }
+// 8 to 15. What is read ends within what is written, and within the block.
+fn read_state(
+    sight: Sight,
+    domain: u64,
+    address: FlashAddress,
+    count: Adus,
+    expected: u64,
+) -> Verdict
+    requires { ⌜ withinLimits (sight .config) ≡ true ⌝ }
     requires { ⌜ isCount count ≡ true ⌝ }
-    ensures { λ r. ⌜ ((store : List ℕ) (entries room bytes : ℕ) → verdictNumber r ≡ firstNo (take 3 (drop 5 (drop 1 (questions (drive table store) (lending entries room bytes) (Read domain address count expected)))))) ⌝ }
+    ensures { λ r. ⌜ verdictNumber r ≡ firstNo (readState sight domain address count expected) ⌝ }
 {
-    let a = word_fields(table.config, address);
-    let offset = a.offset;
-    let b = block_at(table, a.block);
+    let config = sight.config;
+    let b = sight.block;
     let written = b.written;
-    let own = is_held(b, domain) & (a.domain == domain);
+    let offset = address.offset;
+    let capacity = adus_per_block(config);
+    let own = is_held(b, domain) & (address.domain == domain);
+    let ends = ends_within(offset, count, written) & ends_within(offset, count, capacity);
     ask(user_addresses_fit(expected, count.0), Refusal::UserAddress).and(own, Refusal::Holder)
-        .and(ends_within(offset, count, written), Refusal::Extent)
+        .and(ends, Refusal::Extent)
 }
 
 fn read_verdict(
-    table: Table,
+    sight: Sight,
     domain: u64,
-    address: u64,
+    address: FlashAddress,
     count: Adus,
     expected: u64,
     entries: usize,
     room: usize,
 ) -> Verdict
-    requires { ⌜ sound table ≡ true ⌝ }
-    ensures { λ r. ⌜ ((store : List ℕ) (bytes : ℕ) → verdictNumber r ≡ firstNo (take 8 (drop 1 (questions (drive table store) (lending entries room bytes) (Read domain address count expected))))) ⌝ }
+    requires { ⌜ withinLimits (sight .config) ≡ true ⌝ }
+    ensures { λ r. ⌜ verdictNumber r ≡ firstNo (readArguments sight entries room domain address count ++ readState sight domain address count expected) ⌝ }
 {
-    match read_arguments(table, domain, address, count, entries, room) {
+    match read_arguments(sight, domain, address, count, entries, room) {
         Verdict::No(reason) => Verdict::No(reason),
-        Verdict::Pass => read_state(table, domain, address, count, expected),
+        Verdict::Pass => read_state(sight, domain, address, count, expected),
     }
 }
 
@@ -99,7 +110,7 @@ fn read_stretch(store: &[u64], at: usize, count: usize, expected: u64, words: &m
 
 // The stored user addresses from a flash address on, if they are the expected ones.
 pub fn read(
-    table: Table,
+    sight: Sight,
     domain: u64,
     address: u64,
     count: Adus,
@@ -107,26 +118,19 @@ pub fn read(
     store: &[u64],
     words: &mut [u64],
 ) -> Answer
-    ensures { λ r. ⌜ ((bytes : List ℕ) → Serves (drive table (now (store .entry))) (Read domain address count expected) (now (words .entry)) bytes (served (answering table r) (now (store .entry)) (now (words .exit)) bytes)) ⌝ }
+    requires { ⌜ Seen domain sight ⌝ }
+    ensures { λ r. ⌜ ((t : Table) (bytes : List ℕ) → Sees t domain sight → SeesBlock t (fieldsOf (t .config) address .block) sight → Serves (drive t (now (store .entry))) (Read domain address count expected) (now (words .entry)) bytes (served (answering t r) (now (store .entry)) (now (words .exit)) bytes)) ⌝ }
 {
-    let survey = surveyed(table);
-    if !survey.sound {
+    if !sight.sound {
         return Answer::Refused(Refusal::Unsound);
     }
-    match read_verdict(
-        table,
-        domain,
-        address,
-        count,
-        expected,
-        store.len(),
-        words.len(),
-    ) {
+    let config = sight.config;
+    let a = word_fields(config, address);
+    match read_verdict(sight, domain, a, count, expected, store.len(), words.len()) {
         Verdict::No(reason) => Answer::Refused(reason),
         Verdict::Pass => {
-            let a = word_fields(table.config, address);
             let offset = a.offset;
-            let stretch = stretch_start(table.config, a.block);
+            let stretch = stretch_start(config, a.block);
             let at = (stretch.0 + offset.0) as usize;
             read_stretch(store, at, count.0 as usize, expected, words)
         }

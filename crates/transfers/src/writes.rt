@@ -10,37 +10,39 @@ use geometry::adus_per_block;
 use geometry::flash_word;
 use geometry::stretch_start;
 use model::Answer;
+use model::Block;
 use model::Refusal;
-use model::Table;
-use tables::Served;
+use survey::Sight;
+use survey::store_verdict;
+use tables::Outcome;
 use tables::Verdict;
 use tables::ask;
-use tables::block_at;
+use tables::block_change;
 use tables::ends_within;
 use tables::is_count;
 use tables::is_held;
 use tables::is_open_by_erase;
-use tables::refused;
-use tables::store_verdict;
-use tables::surveyed;
-use tables::with_block;
+use tables::refusal;
 ghost use mathlib.Core.Bool.{true};
-ghost use mathlib.Core.List.{List};
+ghost use mathlib.Core.List.{List, _++_};
 ghost use mathlib.Core.Path.{_≡_};
 ghost use Prim.Native.Nat.{ℕ, _+_, _≤_};
-ghost use lib.ListN.{drop, length, take};
+ghost use lib.ListN.{length};
 ghost use Rattle.geometry.specs.Address.{wordOf};
 ghost use Rattle.geometry.specs.Answers.{addressQuestions};
 ghost use Rattle.geometry.specs.Questions.{firstNo};
+ghost use Rattle.geometry.specs.Shape.{withinLimits};
 ghost use Rattle.model.specs.declared.command.Command.the-variants.{WriteByBlock};
+ghost use Rattle.model.specs.declared.table.Table.{Table};
 ghost use Rattle.rules.specs.Blocks.{userAddresses, writtenInto};
-ghost use Rattle.rules.specs.Drive.{overwritten};
+ghost use Rattle.rules.specs.Drive.{blockAt, overwritten, withBlock};
 ghost use Rattle.rules.specs.Effects.{Serves};
-ghost use Rattle.rules.specs.Questions.{isCount, questions, userAddressesFit};
-ghost use Rattle.rules.specs.Soundness.{sound};
+ghost use Rattle.rules.specs.Questions.{isCount, userAddressesFit};
+ghost use Rattle.survey.specs.Sight.{Seen, Sees, SeesBlock};
+ghost use Rattle.tables.specs.Changing.{outcomeServed};
 ghost use Rattle.tables.specs.Serving.{drive, served};
-ghost use Rattle.tables.specs.Verdicts.{lending, verdictNumber};
-ghost use Rattle.transfers.specs.Transfers.{MayWrite, Wrote, addressIn};
+ghost use Rattle.tables.specs.Verdicts.{verdictNumber};
+ghost use Rattle.transfers.specs.Transfers.{MayWriteIn, Wrote, addressIn, writeArguments, writeState};
 
 // ---- Into a block
 
@@ -68,59 +70,61 @@ fn put_user_addresses(store: &mut [u64], at: usize, count: usize, start: u64)
     put_row(store, at, count, start, start != ALL_ONES);
 }
 
-// User addresses go into a block from its first unwritten ADU on, and their flash addresses into the
-// words.
+// User addresses go into block n, whose record is given, from its first unwritten ADU on, and their
+// flash addresses into the words. The block's new record is handed back.
 pub fn written_into(
-    table: Table,
+    config: Config,
     domain: u64,
-    block: u64,
+    n: u64,
+    block: Block,
     start: u64,
     count: Adus,
     store: &mut [u64],
     words: &mut [u64],
-) -> Table
-    requires { ⌜ MayWrite (drive table (now store)) domain block (count .0) ⌝ }
+) -> Block
+    requires { ⌜ MayWriteIn config (length (now store)) domain n block (count .0) ⌝ }
     requires { ⌜ userAddressesFit start (count .0) ≡ true ⌝ }
     requires { ⌜ count .0 ≤ length (now words) ⌝ }
-    ensures { λ r. ⌜ Wrote (writtenInto domain block (userAddresses start (count .0)) (drive table (now (store .entry)))) (now (words .entry)) (drive r (now (store .exit))) (now (words .exit)) ⌝ }
+    ensures { λ r. ⌜ ((t : Table) → t .config ≡ config → blockAt t n ≡ block → Wrote (writtenInto domain n (userAddresses start (count .0)) (drive t (now (store .entry)))) (now (words .entry)) (drive (withBlock n r t) (now (store .exit))) (now (words .exit))) ⌝ }
 {
-    let config = table.config;
-    let b = block_at(table, block);
-    let written = b.written;
-    let n = count.0 as usize;
-    put_row(words, 0, n, word_at(config, domain, block, written), true);
-    let stretch = stretch_start(config, block);
-    put_user_addresses(store, (stretch.0 + written.0) as usize, n, start);
-    with_block(table, block, b.written_on(count, adus_per_block(config)))
+    let written = block.written;
+    let size = count.0 as usize;
+    put_row(words, 0, size, word_at(config, domain, n, written), true);
+    let stretch = stretch_start(config, n);
+    put_user_addresses(store, (stretch.0 + written.0) as usize, size, start);
+    block.written_on(count, adus_per_block(config))
 }
 
 // ---- Write by block
 
+// 3 to 7.
 fn write_arguments(
-    table: Table,
+    sight: Sight,
     domain: u64,
     block: u64,
     count: Adus,
     entries: usize,
     room: usize,
 ) -> Verdict
-    requires { ⌜ sound table ≡ true ⌝ }
-    ensures { λ r. ⌜ ((store : List ℕ) (start bytes : ℕ) → verdictNumber r ≡ firstNo (take 5 (drop 1 (questions (drive table store) (lending entries room bytes) (WriteByBlock domain block start count))))) ⌝ }
+    requires { ⌜ withinLimits (sight .config) ≡ true ⌝ }
+    ensures { λ r. ⌜ verdictNumber r ≡ firstNo (writeArguments sight entries room domain block count) ⌝ }
 {
-    let range = (block < table.config.blocks) & is_count(count);
-    store_verdict(table, domain, entries)
+    let range = (block < sight.config.blocks) & is_count(count);
+    store_verdict(sight, domain, entries)
         .and(range, Refusal::Range)
         .and(count.0 <= room as u64, Refusal::Output)
 }
 
-fn write_state(table: Table, domain: u64, block: u64, start: u64, count: Adus) -> Verdict
-    requires { ⌜ sound table ≡ true ⌝ }
+// 8 to 15.
+fn write_state(sight: Sight, domain: u64, start: u64, count: Adus) -> Verdict
+    requires { ⌜ withinLimits (sight .config) ≡ true ⌝ }
     requires { ⌜ isCount count ≡ true ⌝ }
-    ensures { λ r. ⌜ ((store : List ℕ) (entries room bytes : ℕ) → verdictNumber r ≡ firstNo (drop 5 (drop 1 (questions (drive table store) (lending entries room bytes) (WriteByBlock domain block start count))))) ⌝ }
+    ensures { λ r. ⌜ verdictNumber r ≡ firstNo (writeState sight domain start count) ⌝ }
 {
-    let b = block_at(table, block);
+    let config = sight.config;
+    let b = sight.block;
     let written = b.written;
-    let capacity = adus_per_block(table.config);
+    let capacity = adus_per_block(config);
     ask(user_addresses_fit(start, count.0), Refusal::UserAddress).and(
             is_held(b, domain),
             Refusal::Holder,
@@ -130,7 +134,7 @@ fn write_state(table: Table, domain: u64, block: u64, start: u64, count: Adus) -
 }
 
 fn write_verdict(
-    table: Table,
+    sight: Sight,
     domain: u64,
     block: u64,
     start: u64,
@@ -138,36 +142,41 @@ fn write_verdict(
     entries: usize,
     room: usize,
 ) -> Verdict
-    requires { ⌜ sound table ≡ true ⌝ }
-    ensures { λ r. ⌜ ((store : List ℕ) (bytes : ℕ) → verdictNumber r ≡ firstNo (drop 1 (questions (drive table store) (lending entries room bytes) (WriteByBlock domain block start count)))) ⌝ }
+    requires { ⌜ withinLimits (sight .config) ≡ true ⌝ }
+    ensures { λ r. ⌜ verdictNumber r ≡ firstNo (writeArguments sight entries room domain block count ++ writeState sight domain start count) ⌝ }
 {
-    match write_arguments(table, domain, block, count, entries, room) {
+    match write_arguments(sight, domain, block, count, entries, room) {
         Verdict::No(reason) => Verdict::No(reason),
-        Verdict::Pass => write_state(table, domain, block, start, count),
+        Verdict::Pass => write_state(sight, domain, start, count),
     }
 }
 
 // User addresses into a block that is Open by Erase, and their flash addresses into the words.
 pub fn write_by_block(
-    table: Table,
+    sight: Sight,
     domain: u64,
     block: u64,
     start: u64,
     count: Adus,
     store: &mut [u64],
     words: &mut [u64],
-) -> Served
-    ensures { λ r. ⌜ ((bytes : List ℕ) → Serves (drive table (now (store .entry))) (WriteByBlock domain block start count) (now (words .entry)) bytes (served r (now (store .exit)) (now (words .exit)) bytes)) ⌝ }
+) -> Outcome
+    requires { ⌜ Seen domain sight ⌝ }
+    ensures { λ r. ⌜ ((t : Table) (bytes : List ℕ) → Sees t domain sight → SeesBlock t block sight → Serves (drive t (now (store .entry))) (WriteByBlock domain block start count) (now (words .entry)) bytes (served (outcomeServed t r) (now (store .exit)) (now (words .exit)) bytes)) ⌝ }
 {
-    let survey = surveyed(table);
-    if !survey.sound {
-        return refused(table, Refusal::Unsound);
+    if !sight.sound {
+        return refusal(Refusal::Unsound);
     }
-    match write_verdict(table, domain, block, start, count, store.len(), words.len()) {
-        Verdict::No(reason) => refused(table, reason),
-        Verdict::Pass => Served {
-            answer: Answer::Done,
-            table: written_into(table, domain, block, start, count, store, words),
-        },
+    match write_verdict(sight, domain, block, start, count, store.len(), words.len()) {
+        Verdict::No(reason) => refusal(reason),
+        Verdict::Pass => {
+            let config = sight.config;
+            let b = sight.block;
+            let new = written_into(config, domain, block, b, start, count, store, words);
+            Outcome {
+                answer: Answer::Done,
+                change: block_change(block, new),
+            }
+        }
     }
 }

@@ -133,12 +133,16 @@ module _ {M : Type 1} (𝓤 : URA M) (H : Heap 𝓤) (A : Atoms 𝓤) (W : Given
       → ent 𝓤 (⋆ 𝓤 H A (Stored l₀ l₁ l₂ l₃ l₄ l₅ l₆ l₇ l₈ l₉ l₁₀ l₁₁ l₁₂ l₁₃ l₁₄ l₁₅ l₁₆ l₁₇ l₁₈ l₁₉))
       (Wp 𝓤 H C Λ (locals l₀ l₁ l₂ l₃ l₄ l₅ l₆ l₇ l₈ l₉ l₁₀ l₁₁ l₁₂ l₁₃ l₁₄ l₁₅ l₁₆ l₁₇ l₁₈ l₁₉) run
       (atReturn 𝓤 H (locals l₀ l₁ l₂ l₃ l₄ l₅ l₆ l₇ l₈ l₉ l₁₀ l₁₁ l₁₂ l₁₃ l₁₄ l₁₅ l₁₆ l₁₇ l₁₈ l₁₉) Post)))
-      → ent 𝓤 (⋆ 𝓤 H A Γ) (WpFn 𝓤 H C Λ (record { lifetimes = 1; outlives = []; params = 2;
-      locals = local τ₀ valueLocal ∷ local τ₁ valueLocal ∷ local τ₂ valueLocal ∷ local τ₃ valueLocal ∷ local τ₄ valueLocal ∷ local τ₅ valueLocal
-      ∷ local τ₆ valueLocal ∷ local τ₇ valueLocal ∷ local τ₈ valueLocal ∷ local τ₉ valueLocal ∷ local τ₁₀ valueLocal ∷ local τ₁₁ valueLocal
-      ∷ local τ₁₂ valueLocal ∷ local τ₁₃ valueLocal ∷ local τ₁₄ valueLocal ∷ local τ₁₅ valueLocal ∷ local τ₁₆ valueLocal ∷ local τ₁₇ valueLocal
-      ∷ local τ₁₈ valueLocal ∷ local τ₁₉ valueLocal ∷ [];
-      body = run }) (v₁ ∷ v₂ ∷ []) Post)
+      → ent 𝓤 (⋆ 𝓤 H A Γ) (WpFn 𝓤 H C Λ (record {
+        lifetimes = 1;
+        outlives = [];
+        params = 2;
+        locals = local τ₀ valueLocal ∷ local τ₁ valueLocal ∷ local τ₂ valueLocal ∷ local τ₃ valueLocal ∷ local τ₄ valueLocal ∷ local τ₅ valueLocal
+            ∷ local τ₆ valueLocal ∷ local τ₇ valueLocal ∷ local τ₈ valueLocal ∷ local τ₉ valueLocal ∷ local τ₁₀ valueLocal ∷ local τ₁₁ valueLocal
+            ∷ local τ₁₂ valueLocal ∷ local τ₁₃ valueLocal ∷ local τ₁₄ valueLocal ∷ local τ₁₅ valueLocal ∷ local τ₁₆ valueLocal ∷ local τ₁₇ valueLocal
+            ∷ local τ₁₈ valueLocal ∷ local τ₁₉ valueLocal ∷ [];
+        body = run;
+      }) (v₁ ∷ v₂ ∷ []) Post)
   enters C Λ run Post typed₁ typed₂ k =
       qed W Γ ∵ enter ! C Λ _ (v₁ ∷ v₂ ∷ []) Post $
       alloc1 ! (λ l₀. alloc1 ! (λ l₁. alloc1 ! (λ l₂. alloc1 ! (λ l₃. alloc1 ! (λ l₄. alloc1 ! (λ l₅. alloc1 ! (λ l₆. alloc1 ! (λ l₇. alloc1 ! (λ l₈.
@@ -210,8 +214,16 @@ module _ {M : Type 1} (𝓤 : URA M) (H : Heap 𝓤) (A : Atoms 𝓤) (W : Given
   -- `put_block` with the number i and the record z, whose machine value is v: the call, that it may be made, and what it leaves.
   module _ (us : List Block) (i : ℕ) (z : Block) (v : Val) where
     abbrev put-at : ℕ × GName → put-block .Ghost
-    put-at a = (((a .0 ∷ [], tt), (fullShare, tt), tt, (lentAs 𝓤 H A W the-row b o us a, (i, (z, tt))),
-        (sliceVal (b, o) (length us) ∷ [], (vint w64 i ∷ [], (v ∷ [], tt)))), tt)
+    put-at a = (
+      (
+        (a .0 ∷ [], tt),
+        (fullShare, tt),
+        tt,
+        (lentAs 𝓤 H A W the-row b o us a, (i, (z, tt))),
+        (sliceVal (b, o) (length us) ∷ [], (vint w64 i ∷ [], (v ∷ [], tt))),
+      ),
+      tt,
+    )
 
     put-ready : Room the-row (length us) → i < 2 ^ 64 → Is the-row z (v ∷ [])
         → ent 𝓤 (Cells us) (H .⇛ (ex 𝓤 (λ (a : ℕ × GName). sep 𝓤 (put-block .pre (put-at a)) (sem 𝓤 H A (Loan us a)))))
@@ -227,8 +239,16 @@ module _ {M : Type 1} (𝓤 : URA M) (H : Heap 𝓤) (A : Atoms 𝓤) (W : Given
   -- `count_down` with seconds.
   module _ (us : List Block) (seconds : ℕ) where
     abbrev count-at : ℕ × GName → count-down .Ghost
-    count-at a = (((a .0 ∷ [], tt), (fullShare, tt), tt, (lentAs 𝓤 H A W the-row b o us a, (seconds, tt)),
-        (sliceVal (b, o) (length us) ∷ [], (vint w32 seconds ∷ [], tt))), tt)
+    count-at a = (
+      (
+        (a .0 ∷ [], tt),
+        (fullShare, tt),
+        tt,
+        (lentAs 𝓤 H A W the-row b o us a, (seconds, tt)),
+        (sliceVal (b, o) (length us) ∷ [], (vint w32 seconds ∷ [], tt)),
+      ),
+      tt,
+    )
 
     count-ready : Room the-row (length us) → seconds < 2 ^ 32
         → ent 𝓤 (Cells us) (H .⇛ (ex 𝓤 (λ (a : ℕ × GName). sep 𝓤 (count-down .pre (count-at a)) (sem 𝓤 H A (Loan us a)))))
@@ -243,8 +263,16 @@ module _ {M : Type 1} (𝓤 : URA M) (H : Heap 𝓤) (A : Atoms 𝓤) (W : Given
   -- `free_held` with the domain d.
   module _ (us : List Block) (d : ℕ) where
     abbrev free-at : ℕ × GName → free-held .Ghost
-    free-at a = (((a .0 ∷ [], tt), (fullShare, tt), tt, (lentAs 𝓤 H A W the-row b o us a, (d, tt)),
-        (sliceVal (b, o) (length us) ∷ [], (vint w64 d ∷ [], tt))), tt)
+    free-at a = (
+      (
+        (a .0 ∷ [], tt),
+        (fullShare, tt),
+        tt,
+        (lentAs 𝓤 H A W the-row b o us a, (d, tt)),
+        (sliceVal (b, o) (length us) ∷ [], (vint w64 d ∷ [], tt)),
+      ),
+      tt,
+    )
 
     free-ready : Room the-row (length us) → d < 2 ^ 64
         → ent 𝓤 (Cells us) (H .⇛ (ex 𝓤 (λ (a : ℕ × GName). sep 𝓤 (free-held .pre (free-at a)) (sem 𝓤 H A (Loan us a)))))

@@ -93,8 +93,13 @@ mark = tyRef erased mut (tyInt w32)
 
 -- At the exit the marks are still owned; of the other parameters nothing need be had.
 abbrev stayed : Stays (walk.ended .signature .params) (walk.ended .kept)
-stayed = (stay-dropped (shrSliceOf (0 ∷ []) tt (plain (λ _. the-row))) yes, (stay-dropped (plain (λ _. subject.the-row)) yes,
-    (stay-dropped (plain (λ _. pass.the-row)) yes, (stay-slice (1 ∷ []) tt (plain (λ _. u32)), tt))))
+stayed = (
+  stay-dropped (shrSliceOf (0 ∷ []) tt (plain (λ _. the-row))) yes,
+  (
+    stay-dropped (plain (λ _. subject.the-row)) yes,
+    (stay-dropped (plain (λ _. pass.the-row)) yes, (stay-slice (1 ∷ []) tt (plain (λ _. u32)), tt)),
+  ),
+)
 
 -- A walk over no block changes nothing, and one step before a walk is a walk.
 finished : (s : Subject) (n : ℕ) (x : Passing) → Walked s n [] x x
@@ -140,12 +145,16 @@ module _ {M : Type 1} (𝓤 : URA M) (H : Heap 𝓤) (A : Atoms 𝓤) (W : Given
       → T (hasTy τ₄ v₄) × WT v₄
       → ((l₀ l₁ l₂ l₃ l₄ l₅ l₆ l₇ l₈ l₉ l₁₀ l₁₁ l₁₂ l₁₃ : ℕ) → ent 𝓤 (⋆ 𝓤 H A (Stored l₀ l₁ l₂ l₃ l₄ l₅ l₆ l₇ l₈ l₉ l₁₀ l₁₁ l₁₂ l₁₃))
       (Wp 𝓤 H C Λ (locals l₀ l₁ l₂ l₃ l₄ l₅ l₆ l₇ l₈ l₉ l₁₀ l₁₁ l₁₂ l₁₃) run (atReturn 𝓤 H (locals l₀ l₁ l₂ l₃ l₄ l₅ l₆ l₇ l₈ l₉ l₁₀ l₁₁ l₁₂ l₁₃) Post)))
-      → ent 𝓤 (⋆ 𝓤 H A Γ) (WpFn 𝓤 H C Λ (record { lifetimes = 2; outlives = []; params = 4;
-      locals = local τ₀ valueLocal ∷ local τ₁ valueLocal ∷ local τ₂ valueLocal ∷ local τ₃ valueLocal ∷ local τ₄ valueLocal ∷ local τ₅ valueLocal
-          ∷ local τ₆ valueLocal
-      ∷ local τ₇ valueLocal ∷ local τ₈ valueLocal ∷ local τ₉ valueLocal ∷ local τ₁₀ valueLocal ∷ local τ₁₁ valueLocal ∷ local τ₁₂ valueLocal
-      ∷ local τ₁₃ valueLocal ∷ [];
-      body = run }) (v₁ ∷ v₂ ∷ v₃ ∷ v₄ ∷ []) Post)
+      → ent 𝓤 (⋆ 𝓤 H A Γ) (WpFn 𝓤 H C Λ (record {
+        lifetimes = 2;
+        outlives = [];
+        params = 4;
+        locals = local τ₀ valueLocal ∷ local τ₁ valueLocal ∷ local τ₂ valueLocal ∷ local τ₃ valueLocal ∷ local τ₄ valueLocal ∷ local τ₅ valueLocal
+            ∷ local τ₆ valueLocal
+            ∷ local τ₇ valueLocal ∷ local τ₈ valueLocal ∷ local τ₉ valueLocal ∷ local τ₁₀ valueLocal ∷ local τ₁₁ valueLocal ∷ local τ₁₂ valueLocal
+            ∷ local τ₁₃ valueLocal ∷ [];
+        body = run;
+      }) (v₁ ∷ v₂ ∷ v₃ ∷ v₄ ∷ []) Post)
   enters C Λ run Post typed₁ typed₂ typed₃ typed₄ k =
       qed W Γ ∵ enter ! C Λ _ (v₁ ∷ v₂ ∷ v₃ ∷ v₄ ∷ []) Post $
       alloc1 ! (λ l₀. alloc1 ! (λ l₁. alloc1 ! (λ l₂. alloc1 ! (λ l₃. alloc1 ! (λ l₄. alloc1 ! (λ l₅. alloc1 ! (λ l₆.
@@ -422,9 +431,14 @@ module _ {M : Type 1} (𝓤 : URA M) (H : Heap 𝓤) (A : Atoms 𝓤) (W : Given
           over = omega (arith, f .1, ap length (f .2), length-append ds [])
       turn-at c i v us ds (z ∷ zs) p f =
           more i z p v us (Below c) within here-is (f .3) (f .4) (λ r w ws long is-found step.
-          below c (length zs) (i + 1) w ws (ds ++ (z ∷ [])) zs r (omega (arith, f .0))
-          (refl, omega (arith, f .1, length-append ds (z ∷ [])), append-assoc ds (z ∷ []) zs ∙ f .2, long, is-found,
-          λ y rest. f .5 y (further s i z zs (passing p us) (passing r ws) y step rest)))
+          below c (length zs) (i + 1) w ws (ds ++ (z ∷ [])) zs r (omega (arith, f .0)) (
+            refl,
+            omega (arith, f .1, length-append ds (z ∷ [])),
+            append-assoc ds (z ∷ []) zs ∙ f .2,
+            long,
+            is-found,
+            λ y rest. f .5 y (further s i z zs (passing p us) (passing r ws) y step rest),
+          ))
         where
           within : i < n
           within = omega (arith, f .1, ap length (f .2), length-append ds (z ∷ zs))
@@ -481,8 +495,16 @@ module _ {M : Type 1} (𝓤 : URA M) (H : Heap 𝓤) (A : Atoms 𝓤) (W : Given
   walks : Walks 𝓤 H A walk.ended stayed (WpFn 𝓤 H (𝓣 .C) (𝓣 .Λ) code.function) (walk.clauses 𝓤 H A mem″ run)
   walks = walked 𝓤 H A walk.ended stayed (walk.clauses 𝓤 H A mem″ run) (WpFn 𝓤 H (𝓣 .C) (𝓣 .Λ) code.function)
       (λ κs. (slice-vals, (vals subject.the-type subject-laws.the-laws, (vals pass.the-type pass-laws.the-laws, (slice-vals, tt)))))
-      (λ κs. (shr-slice-tells (named 0) (κs .0) the-row, (tells subject.the-type subject-laws.the-laws, (tells pass.the-type pass-laws.the-laws,
-      (mut-slice-tells (named 1) (κs .1 .0) u32, tt)))))
+      (λ κs. (
+        shr-slice-tells (named 0) (κs .0) the-row,
+        (
+          tells subject.the-type subject-laws.the-laws,
+          (
+            tells pass.the-type pass-laws.the-laws,
+            (mut-slice-tells (named 1) (κs .1 .0) u32, tt),
+          ),
+        ),
+      ))
       (λ κs qs bounds a g are. needs 𝓤 _ _ (λ asked.
       body 𝓤 H A W mem″ run (κs .0) (κs .1 .0) (qs .0) (qs .1 .0) (a .0 .ptr .0) (a .0 .ptr .1) (a .0 .name) (a .0 .now) (a .1 .0)
       (val subject.the-type subject-laws.the-laws (a .1 .0)) (a .1 .1 .0) (val pass.the-type pass-laws.the-laws (a .1 .1 .0)) (a .1 .1 .1 .0 .ptr .0)
@@ -490,10 +512,16 @@ module _ {M : Type 1} (𝓤 : URA M) (H : Heap 𝓤) (A : Atoms 𝓤) (W : Given
       (asked .0) (asked .1) (are .1 .0) (are .1 .1 .0) (fmOf 𝓤 H (W .laws) 𝓣) known))
 
   meets : Meets 𝓤 H A walk.signature (WpFn 𝓤 H (𝓣 .C) (𝓣 .Λ) code.function) (walk.spec 𝓤 H A mem″ run)
-  meets = walk-meets 𝓤 H A walk.ended stayed W
-      (goes-dropped 𝓤 H A W 2 (shrSliceOf (0 ∷ []) tt (plain (λ _. the-row))) yes (λ κs x f. refl),
-      (goes-dropped 𝓤 H A W 2 (plain (λ _. subject.the-row)) yes (λ κs x f. refl), (goes-dropped 𝓤 H A W 2 (plain (λ _. pass.the-row)) yes (λ κs x f. refl),
-      (goes-slice 𝓤 H A W 2 1 tt (plain (λ _. u32)), tt)))) (walk.clauses 𝓤 H A mem″ run)
+  meets = walk-meets 𝓤 H A walk.ended stayed W (
+    goes-dropped 𝓤 H A W 2 (shrSliceOf (0 ∷ []) tt (plain (λ _. the-row))) yes (λ κs x f. refl),
+    (
+      goes-dropped 𝓤 H A W 2 (plain (λ _. subject.the-row)) yes (λ κs x f. refl),
+      (
+        goes-dropped 𝓤 H A W 2 (plain (λ _. pass.the-row)) yes (λ κs x f. refl),
+        (goes-slice 𝓤 H A W 2 1 tt (plain (λ _. u32)), tt),
+      ),
+    ),
+  ) (walk.clauses 𝓤 H A mem″ run)
       (WpFn 𝓤 H (𝓣 .C) (𝓣 .Λ) code.function) (WpFn-mono 𝓤 H (W .laws) 𝓣 code.function) walks
 
 pub pass-over-spec : {M : Type 1} → statement M

@@ -185,9 +185,13 @@ module _ {M : Type 1} (𝓤 : URA M) (H : Heap 𝓤) (A : Atoms 𝓤) (W : Given
       (𝓣 .C) (𝓣 .Λ) (are .0 .0 .1) (are .1 .0 .1) (are .1 .1 .0)))
 
   meets : Meets 𝓤 H A walk.signature (WpFn 𝓤 H (𝓣 .C) (𝓣 .Λ) code.function) (walk.spec 𝓤 H A mem″ run)
-  meets = walk-meets 𝓤 H A walk.ended stayed W
-      (goes-slice 𝓤 H A W 1 0 tt (plain (λ _. the-row)), (goes-dropped 𝓤 H A W 1 (plain (λ _. u64)) yes (λ κs x f. refl),
-      (goes-dropped 𝓤 H A W 1 (plain (λ _. the-row)) yes (λ κs x f. refl), tt))) (walk.clauses 𝓤 H A mem″ run)
+  meets = walk-meets 𝓤 H A walk.ended stayed W (
+    goes-slice 𝓤 H A W 1 0 tt (plain (λ _. the-row)),
+    (
+      goes-dropped 𝓤 H A W 1 (plain (λ _. u64)) yes (λ κs x f. refl),
+      (goes-dropped 𝓤 H A W 1 (plain (λ _. the-row)) yes (λ κs x f. refl), tt),
+    ),
+  ) (walk.clauses 𝓤 H A mem″ run)
       (WpFn 𝓤 H (𝓣 .C) (𝓣 .Λ) code.function) (WpFn-mono 𝓤 H (W .laws) 𝓣 code.function) walks
 
 pub put-block-spec : {M : Type 1} → statement M

@@ -1,17 +1,18 @@
-use mathlib.Core.List.{[]}
-use Rattle.tables.proofs.Answering.{first-part, part-yes, second-part}
-use mathlib.Core.Path.{ap, sym, _∙_}
-use Rattle.tables.specs.Serving.{drive}
-use Rattle.tables.specs.Verdicts.{lending, verdictNumber}
-use Rattle.model.specs.declared.command.Command.the-variants.{Erase}
-use Rattle.rules.specs.Questions.{questions}
 -- The later questions are put where the earlier ones have no no.
+use mathlib.Core.Path.{refl, sym, ap, _∙_}
 use borrow.Author.Needs.{needs}
+use Rattle.blocks.specs.Erasing.{eraseArguments, eraseState}
+use Rattle.geometry.proofs.Laws.Questions.{positive, then-asked, then-not}
+use Rattle.model.specs.Answers.{numberOf}
+use Rattle.rules.proofs.Questions.{yes-at}
+use Rattle.survey.proofs.Seeing.{limits-seen}
+use Rattle.tables.proofs.Refusals.{refusal-positive}
+use Rattle.tables.specs.Verdicts.{verdictNumber}
 use Rattle.blocks.proofs.erasing.erase_verdict.Statement.{statement}
 use Rattle.blocks.proofs.erasing.erase_verdict.Tie as tie
 
 erase-arguments-requires : tie.Need-erase-arguments-requires
-erase-arguments-requires c κs = sym (c .pre .0 .tested) ∙ c .pre .1
+erase-arguments-requires c κs = limits-seen (c .pre .0 .0) (c .args .domain) (c .args .sight) (c .pre .0 .1) (c .pre .1)
 
 enum-known-reason : tie.Need-enum-known-reason
 enum-known-reason c = search needs
@@ -20,21 +21,20 @@ enum-told : tie.Need-enum-told
 enum-told c = search needs
 
 erase-state-requires : tie.Need-erase-state-requires
-unfolding questions
+unfolding positive eraseArguments
 erase-state-requires c κs = let z = c .before .before .before in let a = z .args in
-    let told = sym (c .before .before .erase-arguments .ensures [] 0 0) ∙ ap verdictNumber (c .enum-told .given .1) in
-    (z .pre, part-yes (drive (a .table) []) (lending (a .entries) 0 0) (Erase (a .domain) (a .block)) 4 1 told)
+    (z .pre, yes-at 1 (eraseArguments (a .sight) (a .entries) (a .domain) (a .block)) refl (sym (c .before .before .erase-arguments .ensures) ∙ ap verdictNumber (c .enum-told .given .1)))
 
 returns : tie.Need-returns
-returns c = λ store words bytes. let a = c .before .before .before .before .args in
-    first-part (drive (a .table) store) (lending (a .entries) words bytes) (Erase (a .domain) (a .block)) 4 (c .before .reason .given .0 .0)
-    (sym (ap verdictNumber (c .before .reason .given .1)) ∙ c .before .before .before .erase-arguments .ensures store words bytes)
+returns c = let a = c .before .before .before .before .args in let reason = c .before .reason .given .0 .0 in λ t s.
+    sym (then-not (eraseArguments (a .sight) (a .entries) (a .domain) (a .block)) (eraseState t (a .sight) (a .domain) (a .block)) (numberOf reason) (refusal-positive reason)
+    (sym (c .before .before .before .erase-arguments .ensures) ∙ ap verdictNumber (c .before .reason .given .1)))
 
 returns-2 : tie.Need-returns-2
-returns-2 c = λ store words bytes. let a = c .before .before .before .before .args in let lent = lending (a .entries) words bytes in
-    c .erase-state .ensures store lent
-    ∙ sym (second-part (drive (a .table) store) lent (Erase (a .domain) (a .block)) 4
-    (sym (c .before .before .before .erase-arguments .ensures store words bytes) ∙ ap verdictNumber (c .before .enum-told .given .1)))
+unfolding positive eraseArguments
+returns-2 c = let a = c .before .before .before .before .args in λ t s.
+    c .erase-state .ensures t s ∙ sym (then-asked (eraseArguments (a .sight) (a .entries) (a .domain) (a .block)) (eraseState t (a .sight) (a .domain) (a .block)) refl
+    (sym (c .before .before .before .erase-arguments .ensures) ∙ ap verdictNumber (c .before .enum-told .given .1)))
 
 pub erase-verdict-spec : {M : Type 1} → statement M
 erase-verdict-spec =

@@ -1,29 +1,27 @@
-use mathlib.Core.Path.{refl, _∙_}
+-- The three questions, one by one, with the count of held blocks that is seen.
+use Prim.Native.Nat.{_≤_}
+use mathlib.Core.Path.{refl}
 use native.Mathlib.Omega.{arith}
-use Rattle.geometry.specs.Questions.{ask}
+use borrow.Author.Needs.{needs}
 use Rattle.geometry.proofs.Laws.Questions.{positive}
-use Rattle.geometry.proofs.Laws.Shape.{is-between}
+use Rattle.survey.proofs.Seeing.{held-seen}
 use Rattle.tables.proofs.Answering.{chain, one-by-one}
 use Rattle.tables.specs.Verdicts.{newBlocksQuestions, thenNumber}
--- The three questions, one by one, with the survey's count of held blocks.
-use borrow.Author.Needs.{needs}
 use Rattle.blocks.proofs.opening.new_blocks_verdict.Statement.{statement}
 use Rattle.blocks.proofs.opening.new_blocks_verdict.Tie as tie
 
-domain-at-requires : tie.Need-domain-at-requires
-domain-at-requires c κs = search needs
-
-held-by-requires : tie.Need-held-by-requires
-held-by-requires c κs = search needs
+-- No domain of a sound table holds more blocks than there are.
+least : (c : tie.Start) → c .args .sight .held ≤ 256
+least c = held-seen (c .pre .0 .0 .0) (c .args .domain) (c .args .sight) (c .pre .0 .0 .1) (c .pre .0 .1) (c .pre .1 .0)
 
 add-after : tie.Need-add-after
-add-after c = search needs
+add-after c = omega (arith, least (c .before .before), c .before .before .pre .1 .1)
 
 reserved-by-requires : tie.Need-reserved-by-requires
 reserved-by-requires c κs = search needs
 
 covered-with-requires : tie.Need-covered-with-requires
-covered-with-requires c κs = let z = c .before .before .before .before in (z .pre .0, (z .pre .1 .0, (c .reserved-by .ensures .1, omega (arith, c .before .held-by .ensures .1, z .pre .1 .1))))
+covered-with-requires c κs = let z = c .before .before .before in (z .pre .0, (z .pre .1 .0, (c .reserved-by .ensures .1, omega (arith, least z, z .pre .1 .1))))
 
 serials-left-requires : tie.Need-serials-left-requires
 serials-left-requires c κs = search needs
@@ -42,28 +40,24 @@ and-requires-2 c κs = search needs
 
 returns : tie.Need-returns
 unfolding chain positive thenNumber
-returns c = let z = c .before .before .before .before .before .before .before .before .before .before in let a = z .args in let sur = z .pre .0 in
-    let id = is-between 1 16 (a .domain) (z .pre .1 .0) in
-    let held = c .before .before .before .before .before .before .before .held-by .ensures .0 ∙ sur .0 .held (sur .1) (a .domain) (omega (arith, id .most)) in
+returns c = let z = c .before .before .before .before .before .before .before .before .before in let a = z .args in λ t s.
     rw (
       c .and2 .ensures,
       c .before .and .ensures,
       c .before .before .within-quota .ensures,
       c .before .before .before .ask .ensures,
       c .before .before .before .before .serials-left .ensures,
-      c .before .before .before .before .before .covered-with .ensures,
+      c .before .before .before .before .before .covered-with .ensures t s,
       c .before .before .before .before .before .before .reserved-by .ensures .0,
-      held,
-      c .before .before .before .before .before .before .before .before .domain-at .ensures,
+      s .holds (z .pre .0 .1) (z .pre .1 .0),
+      s .same-domain,
     )
-    (one-by-one (newBlocksQuestions (a .table) (a .domain) (a .serials) (a .blocks)) refl)
+    (one-by-one (newBlocksQuestions t (a .domain) (a .serials) (a .blocks)) refl)
 
 pub new-blocks-verdict-spec : {M : Type 1} → statement M
 new-blocks-verdict-spec =
     tie.close
     (tie.spec
-    domain-at-requires
-    held-by-requires
     add-after
     reserved-by-requires
     covered-with-requires

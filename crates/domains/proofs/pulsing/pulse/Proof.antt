@@ -1,70 +1,60 @@
+-- An unsound table, too many seconds, or every open block counted down.
 use mathlib.Core.List.{[]}
 use mathlib.Core.Path.{refl, sym, _∙_}
-use borrow.Author.Tests.{not-false, not-true}
-use Rattle.tables.specs.Serving.{drive}
-use Rattle.rules.specs.Effects.{effect}
-use Rattle.rules.specs.Questions.{questions}
-use Rattle.rules.proofs.Soundness.{apart}
-use Rattle.geometry.proofs.Laws.Shape.{limits}
-use Rattle.model.specs.declared.answer.Answer.the-variants.{Done}
-use Rattle.tables.proofs.Answering.{later-no, table-call, unsound-call}
 use native.Mathlib.Omega.{arith}
-use borrow.Author.Tests.{le-leb, lt-leb}
+use borrow.Author.Tests.{le-leb, lt-leb, not-false, not-true}
+use Rattle.geometry.specs.Questions.{firstNo}
+use Rattle.model.specs.declared.answer.Answer.the-variants.{Done}
 use Rattle.model.specs.declared.answer.Refusal.the-variants.{Range}
 use Rattle.model.specs.declared.command.Command.the-variants.{Pulse}
-use Rattle.geometry.specs.Questions.{firstNo}
--- An unsound table, too many seconds, or every open block counted down.
+use Rattle.rules.specs.Effects.{effect}
+use Rattle.rules.specs.Questions.{questions}
+use Rattle.survey.proofs.Outcomes.{changed-outcome, later-outcome, unsound-outcome}
+use Rattle.survey.proofs.Seeing.{changed-pulse, sound-limits}
+use Rattle.tables.specs.Changing.{pulseChange}
 use borrow.Author.Needs.{needs}
 use Rattle.domains.proofs.pulsing.pulse.Statement.{statement}
 use Rattle.domains.proofs.pulsing.pulse.Tie as tie
 
-surveyed-requires : tie.Need-surveyed-requires
-surveyed-requires c κs = search needs
-
-refused-requires : tie.Need-refused-requires
-refused-requires c κs = search needs
+refusal-requires : tie.Need-refusal-requires
+refusal-requires c κs = search needs
 
 returns : tie.Need-returns
-returns c = λ store words bytes. let z = c .before .before .before .before .args in
-    rw (c .refused .ensures) (unsound-call (drive (z .table) store) (Pulse (z .seconds)) words bytes
-    (sym (c .before .before .before .surveyed .ensures .tested) ∙ not-true _ (c .before .if1 .taken)))
+returns c = let z = c .before .before .before .args in λ t store words bytes s.
+    unsound-outcome t 0 (z .sight) (Pulse (z .seconds)) (c .refusal .result) store words bytes s (not-true _ (c .before .if1 .taken)) (c .refusal .ensures)
 
-refused-requires-2 : tie.Need-refused-requires-2
-refused-requires-2 c κs = search needs
+refusal-requires-2 : tie.Need-refusal-requires-2
+refusal-requires-2 c κs = search needs
 
 returns-2 : tie.Need-returns-2
 unfolding questions firstNo
-returns-2 c = λ store words bytes. let z = c .before .before .before .before .before .args in
-    rw (c .refused2 .ensures)
-    (later-no (drive (z .table) store) (Pulse (z .seconds)) words bytes Range
-    (sym (c .before .before .before .before .surveyed .ensures .tested) ∙ not-false _ (c .before .before .if1 .left))
-    (rw (le-leb 0 (z .seconds) (omega arith), lt-leb (z .seconds) 65535 (c .before .if2 .taken))))
+returns-2 c = let z = c .before .before .before .before .args in λ t store words bytes s.
+    later-outcome t 0 (z .sight) (Pulse (z .seconds)) (c .refusal2 .result) Range store words bytes s (not-false _ (c .before .before .if1 .left))
+    (rw (le-leb 0 (z .seconds) (omega arith), lt-leb (z .seconds) 65535 (c .before .if2 .taken))) (c .refusal2 .ensures)
 
-cast-pulsed : tie.Need-cast-pulsed
-cast-pulsed c = search needs
+cast-pulse-change : tie.Need-cast-pulse-change
+cast-pulse-change c = search needs
 
-pulsed-requires : tie.Need-pulsed-requires
-pulsed-requires c κs = let t = c .before .before .before .before .args .table in
-    limits (t .config) (apart t (sym (c .before .before .before .surveyed .ensures .tested) ∙ not-false _ (c .before .if1 .left)) .limits) .ranges .blocks .most
+pulse-change-requires : tie.Need-pulse-change-requires
+pulse-change-requires c κs = search needs
 
 returns-3 : tie.Need-returns-3
 unfolding questions effect firstNo
-returns-3 c = λ store words bytes. let z = c .before .before .before .before .before .args in
-    rw (c .pulsed .ensures)
-    (table-call (drive (z .table) store) (Pulse (z .seconds)) words bytes [] Done _
-    (sym (c .before .before .before .before .surveyed .ensures .tested) ∙ not-false _ (c .before .before .if1 .left))
+returns-3 c = let z = c .before .before .before .before .args in λ t store words bytes s.
+    let e = not-false _ (c .before .before .if1 .left) in
+    rw (c .pulse-change .ensures)
+    (changed-outcome t 0 (z .sight) (Pulse (z .seconds)) Done (pulseChange (z .seconds)) _ [] store words bytes s e
     (rw (le-leb 0 (z .seconds) (omega arith), le-leb (z .seconds) 65535 (c .before .if2 .left)))
-    refl refl refl)
+    (changed-pulse t (z .seconds) (sound-limits t (sym (s .tested) ∙ e))) refl refl refl)
 
 pub pulse-spec : {M : Type 1} → statement M
 pulse-spec =
     tie.close
     (tie.spec
-    surveyed-requires
-    refused-requires
+    refusal-requires
     returns
-    refused-requires-2
+    refusal-requires-2
     returns-2
-    cast-pulsed
-    pulsed-requires
+    cast-pulse-change
+    pulse-change-requires
     returns-3)

@@ -1,13 +1,11 @@
+-- What is asked of the domain, then the plane counts.
 use mathlib.Core.List.{[], _∷_}
 use mathlib.Core.Path.{refl}
 use Rattle.geometry.specs.Address.{isDomainId}
 use Rattle.geometry.specs.Questions.{ask}
 use Rattle.geometry.proofs.Laws.Questions.{positive}
-use Rattle.tables.proofs.Answering.{chain, one-by-one-after}
-use Rattle.rules.proofs.Soundness.{apart}
 use Rattle.rules.specs.Domains.{arePlaneCounts}
-use Rattle.rules.specs.Questions.{exists, questions}
--- What is asked of the domain, then the plane counts.
+use Rattle.tables.proofs.Answering.{chain, one-by-one-after}
 use borrow.Author.Needs.{needs}
 use Rattle.domains.proofs.reserving.change_arguments.Statement.{statement}
 use Rattle.domains.proofs.reserving.change_arguments.Tie as tie
@@ -16,16 +14,16 @@ domain-verdict-requires : tie.Need-domain-verdict-requires
 domain-verdict-requires c κs = search needs
 
 are-plane-counts-requires : tie.Need-are-plane-counts-requires
-are-plane-counts-requires c κs = apart (c .before .before .args .table) (c .before .before .pre) .limits
+are-plane-counts-requires c κs = search needs
 
 and-requires : tie.Need-and-requires
 and-requires c κs = search needs
 
 returns : tie.Need-returns
-unfolding chain positive questions
-returns c = λ store lent. let z = c .before .before .before .before .args in let t = z .table in
+unfolding chain positive
+returns c = let z = c .before .before .before .before .args in let x = z .sight in
     rw (c .and .ensures, c .before .are-plane-counts .ensures, c .before .before .domain-verdict .ensures)
-    (one-by-one-after (ask 4 (isDomainId (z .domain)) ∷ ask 5 (exists t (z .domain)) ∷ []) (ask 6 (arePlaneCounts (t .config) (z .guarantee) (z .quota)) ∷ []) refl refl)
+    (one-by-one-after (ask 4 (isDomainId (z .domain)) ∷ ask 5 (x .domain .exists) ∷ []) (ask 6 (arePlaneCounts (x .config) (z .guarantee) (z .quota)) ∷ []) refl refl)
 
 pub change-arguments-spec : {M : Type 1} → statement M
 change-arguments-spec =

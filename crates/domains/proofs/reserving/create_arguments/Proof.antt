@@ -1,3 +1,4 @@
+-- Three questions, one after the other.
 use Prim.Native.Nat.{ℕ}
 use mathlib.Core.Bool.{not, _&&_}
 use mathlib.Core.List.{[], _∷_}
@@ -9,12 +10,9 @@ use Rattle.geometry.proofs.Laws.Questions.{positive}
 use Rattle.geometry.specs.Address.{isDomainId}
 use Rattle.geometry.specs.Questions.{ask}
 use Rattle.geometry.specs.Shape.{between}
+use Rattle.rules.specs.Domains.{arePlaneCounts}
 use Rattle.tables.proofs.Answering.{chain, one-by-one}
 use Rattle.tables.specs.Verdicts.{thenNumber}
-use Rattle.rules.proofs.Soundness.{apart}
-use Rattle.rules.specs.Domains.{arePlaneCounts}
-use Rattle.rules.specs.Questions.{exists, questions}
--- Three questions, one after the other.
 use borrow.Author.Needs.{needs}
 use Rattle.domains.proofs.reserving.create_arguments.Statement.{statement}
 use Rattle.domains.proofs.reserving.create_arguments.Tie as tie
@@ -23,11 +21,8 @@ use Rattle.domains.proofs.reserving.create_arguments.Tie as tie
 from-zero : (high n : ℕ) → between 0 high n ≡ leb n high
 from-zero high n = rw (le-leb 0 n (omega arith))
 
-domain-at-requires : tie.Need-domain-at-requires
-domain-at-requires c κs = search needs
-
 are-plane-counts-requires : tie.Need-are-plane-counts-requires
-are-plane-counts-requires c κs = apart (c .before .before .args .table) (c .before .before .pre) .limits
+are-plane-counts-requires c κs = search needs
 
 is-domain-id-requires : tie.Need-is-domain-id-requires
 is-domain-id-requires c κs = search needs
@@ -42,27 +37,23 @@ and-requires-2 : tie.Need-and-requires-2
 and-requires-2 c κs = search needs
 
 returns : tie.Need-returns
-unfolding chain positive questions thenNumber
-returns c = λ store lent.
-    let z = c .before .before .before .before .before .before .before .before .args in
-    let t = z .table in
-    let range = arePlaneCounts (t .config) (z .guarantee) (z .quota) && between 1 16 (z .placements) && leb (z .limit) 256 in
+unfolding chain positive thenNumber
+returns c = let z = c .before .before .before .before .before .before .before .before .args in let x = z .sight in
+    let range = arePlaneCounts (x .config) (z .guarantee) (z .quota) && between 1 16 (z .placements) && leb (z .limit) 256 in
     rw (
       c .and2 .ensures,
       c .before .and .ensures,
       c .before .before .before .ask .ensures,
       c .before .before .before .before .is-domain-id .ensures,
       c .before .before .before .before .before .are-plane-counts .ensures,
-      c .before .before .before .before .before .before .domain-at .ensures,
       from-zero 256 (z .limit),
     )
-    (one-by-one (ask 4 (isDomainId (z .domain)) ∷ ask 5 (not (exists t (z .domain))) ∷ ask 6 range ∷ []) refl)
+    (one-by-one (ask 4 (isDomainId (z .domain)) ∷ ask 5 (not (x .domain .exists)) ∷ ask 6 range ∷ []) refl)
 
 pub create-arguments-spec : {M : Type 1} → statement M
 create-arguments-spec =
     tie.close
     (tie.spec
-    domain-at-requires
     are-plane-counts-requires
     is-domain-id-requires
     ask-requires

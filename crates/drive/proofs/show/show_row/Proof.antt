@@ -9,10 +9,10 @@ use Rattle.drive.proofs.show.show_row.Statement.{statement}
 use Rattle.drive.proofs.show.show_row.Tie as tie
 
 abbrev Inv-loop : tie.InvT-loop
-Inv-loop table first holders count row₀ i₀ t9 row i = (i ≤ count) × (length row ≡ 64)
+Inv-loop first holders table count row₀ i₀ t11 row i = (i ≤ count) × (length row ≡ 64)
 
 abbrev μ-loop : tie.MeasureT-loop
-μ-loop table first holders count row₀ i₀ t9 row i = count - i
+μ-loop first holders table count row₀ i₀ t11 row i = count - i
 
 row-length-requires : tie.Need-row-length-requires Inv-loop μ-loop
 row-length-requires c κs = search needs
@@ -23,8 +23,11 @@ loop-holds c = search needs
 wrapping-add-u64-requires : tie.Need-wrapping-add-u64-requires Inv-loop μ-loop
 wrapping-add-u64-requires c κs = search needs
 
-block-at-requires : tie.Need-block-at-requires Inv-loop μ-loop
-block-at-requires c κs = search needs
+mul-block : tie.Need-mul-block Inv-loop μ-loop
+mul-block c = omega arith
+
+element-copy-out-block : tie.Need-element-copy-out-block Inv-loop μ-loop
+element-copy-out-block c = omega arith
 
 letter-requires : tie.Need-letter-requires Inv-loop μ-loop
 letter-requires c κs = search needs
@@ -70,7 +73,8 @@ show-row-spec =
     row-length-requires
     loop-holds
     wrapping-add-u64-requires
-    block-at-requires
+    mul-block
+    element-copy-out-block
     letter-requires
     array-write-row
     add-i

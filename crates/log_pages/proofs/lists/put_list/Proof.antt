@@ -1,58 +1,52 @@
 -- The descriptors of the blocks that are passed stand at the front, and in the end the end mark behind them.
-use Prim.Native.Nat.{_≤_, _-_}
+use Prim.Native.Nat.{_+_, _-_}
 use mathlib.Core.Logic.{⊎-elim}
-use mathlib.Core.Path.{sym, _∙_}
+use mathlib.Core.Path.{_∙_}
 use native.Mathlib.Omega.{arith}
-use borrow.Author.Needs.{needs}
-use Rattle.geometry.proofs.Laws.Shape.{limits}
 use Rattle.log_pages.proofs.Listing.{Begun, begun, listed-more, none-more, room-for, same-long, whole-list}
 use Rattle.log_pages.proofs.lists.put_list.Statement.{statement}
 use Rattle.log_pages.proofs.lists.put_list.Tie as tie
 
 abbrev Inv-loop : tie.InvT-loop
-Inv-loop bytes₀ domain listed table config blocks at₀ n₀ bytes at n = Begun table domain listed n at bytes₀ bytes
+Inv-loop bytes₀ marks blocks at₀ n₀ bytes at n = Begun marks blocks n at bytes₀ bytes
 
 abbrev μ-loop : tie.MeasureT-loop
-μ-loop bytes₀ domain listed table config blocks at₀ n₀ bytes at n = blocks - n
-
--- There are at most 256 blocks.
-few : (c : tie.Start Inv-loop μ-loop) → c .args .t2 .config .blocks ≤ 256
-few c = limits (c .args .t2 .config) (c .pre .0) .ranges .blocks .most
+μ-loop bytes₀ marks blocks at₀ n₀ bytes at n = blocks - n
 
 loop-holds : tie.Need-loop-holds Inv-loop μ-loop
-loop-holds c = let a = c .before .before .args in begun (a .t2) (a .domain) (a .listed) (a .bytes .now)
+loop-holds c = let a = c .before .before .args in begun (a .marks .now) (a .blocks) (a .bytes .now)
 
-mul-b : tie.Need-mul-b Inv-loop μ-loop
-mul-b c = omega (arith, few (c .before .before .before .before), c .loop-test .taken)
+add-code : tie.Need-add-code Inv-loop μ-loop
+add-code c = omega (arith, c .loop-test .taken, c .before .before .before .before .pre .0 .0)
 
-element-copy-out-b : tie.Need-element-copy-out-b Inv-loop μ-loop
-element-copy-out-b c = omega (arith, few (c .before .before .before .before), c .loop-test .taken)
+mul-code : tie.Need-mul-code Inv-loop μ-loop
+mul-code c = omega (arith, c .loop-test .taken, c .before .before .before .before .pre .0 .0)
 
-is-listed-requires : tie.Need-is-listed-requires Inv-loop μ-loop
-is-listed-requires c κs = search needs
+shared-slice-read-code : tie.Need-shared-slice-read-code Inv-loop μ-loop
+shared-slice-read-code c = omega (arith, c .before .loop-test .taken, c .before .before .before .before .before .pre .0 .0, c .before .before .before .before .before .pre .0 .1)
 
-wear-index-requires : tie.Need-wear-index-requires Inv-loop μ-loop
-wear-index-requires c κs = c .before .before .before .before .before .before .before .before .pre .0
+cast-put-descriptor : tie.Need-cast-put-descriptor Inv-loop μ-loop
+cast-put-descriptor c = omega (arith, c .before .before .shared-slice-known2 .given (576 + c .before .before .before .before .loop .n))
 
-mark-of-requires : tie.Need-mark-of-requires Inv-loop μ-loop
-mark-of-requires c κs = search needs
+cast-put-descriptor-2 : tie.Need-cast-put-descriptor-2 Inv-loop μ-loop
+cast-put-descriptor-2 c = omega (arith, c .before .before .shared-slice-known2 .given (576 + c .before .before .before .before .loop .n))
 
 put-descriptor-requires : tie.Need-put-descriptor-requires Inv-loop μ-loop
-put-descriptor-requires c κs = room-for (c .before .before .before .before .before .before .before .loop .inv) (c .before .before .before .before .before .before .before .before .before .before .pre .1)
+put-descriptor-requires c κs = room-for (c .before .before .before .before .loop .inv) (c .before .before .before .before .before .before .before .pre .1)
 
 add-at : tie.Need-add-at Inv-loop μ-loop
-add-at c = omega (arith, room-for (c .before .before .before .before .before .before .before .before .before .before .loop .inv) (c .before .before .before .before .before .before .before .before .before .before .before .before .before .pre .1), same-long (c .before .before .before .before .before .before .before .before .before .before .loop .inv) (c .before .before .before .before .before .before .before .before .before .before .before .before .before .pre .1))
+add-at c = omega (arith, room-for (c .before .before .before .before .before .before .before .loop .inv) (c .before .before .before .before .before .before .before .before .before .before .pre .1), same-long (c .before .before .before .before .before .before .before .loop .inv) (c .before .before .before .before .before .before .before .before .before .before .pre .1))
 
 add-n : tie.Need-add-n Inv-loop μ-loop
-add-n c = omega (arith, few (c .before .before .before .before .before .before .before), c .before .before .before .loop-test .taken)
+add-n c = omega (arith, c .before .before .loop-test .taken, c .before .before .before .before .before .before .pre .0 .0)
 
 loop-less : tie.Need-loop-less Inv-loop μ-loop
-loop-less c = omega (arith, c .before .before .before .loop-test .taken)
+loop-less c = omega (arith, c .before .before .loop-test .taken)
 
 loop-again : tie.Need-loop-again Inv-loop μ-loop
-loop-again c = ⊎-elim
-    (λ w. rw (w .7, w .8) (listed-more (c .before .before .before .before .loop .inv) (omega (arith, c .before .before .before .loop-test .taken)) (sym (c .before .is-listed .ensures) ∙ w .0 .taken) (w .4 .ensures ∙ rw (w .2 .ensures, w .3 .ensures))))
-    (λ w. rw (w .1, w .2) (none-more (c .before .before .before .before .loop .inv) (omega (arith, c .before .before .before .loop-test .taken)) (sym (c .before .is-listed .ensures) ∙ w .0 .left)))
+loop-again c = let i = c .before .before .before .loop .inv in ⊎-elim
+    (λ w. rw (w .5, w .6) (listed-more i (omega (arith, c .before .before .loop-test .taken)) (w .0 .taken) (w .2 .ensures)))
+    (λ w. rw (w .1, w .2) (none-more i (omega (arith, c .before .before .loop-test .taken)) (w .0 .left)))
     (c .if1 .came)
 
 put-descriptor-requires-2 : tie.Need-put-descriptor-requires-2 Inv-loop μ-loop
@@ -71,11 +65,11 @@ put-list-spec =
     Inv-loop
     μ-loop
     loop-holds
-    mul-b
-    element-copy-out-b
-    is-listed-requires
-    wear-index-requires
-    mark-of-requires
+    add-code
+    mul-code
+    shared-slice-read-code
+    cast-put-descriptor
+    cast-put-descriptor-2
     put-descriptor-requires
     add-at
     add-n

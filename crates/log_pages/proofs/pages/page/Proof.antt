@@ -1,55 +1,33 @@
 -- An unsound table, a later no, or the page filled in.
-use Prim.Native.Nat.{ℕ, _≤_}
-use mathlib.Core.Bool.{false, true}
-use mathlib.Core.List.{List, []}
+use mathlib.Core.Bool.{true}
 use mathlib.Core.Path.{refl, sym, ap, _∙_, _≡_}
 use native.Mathlib.Omega.{arith}
-use lib.ListN.{drop, length}
-use borrow.Author.Tests.{leb-true, not-false, not-true}
-use borrow.Author.Needs.{needs}
+use lib.ListN.{length}
+use borrow.Author.Tests.{not-false, not-true}
 use Rattle.geometry.specs.Questions.{firstNo}
-use Rattle.tables.proofs.Answering.{accepted-call, later-no, sound-verdict, unsound-call}
 use Rattle.log_pages.proofs.Filling.{fill-parts}
-use Rattle.tables.specs.Serving.{drive}
-use Rattle.tables.specs.Verdicts.{lending, verdictNumber}
+use Rattle.log_pages.proofs.Asked.{page-asked, page-inside, page-room}
+use Rattle.log_pages.specs.LogPages.{pageQuestions}
 use Rattle.model.specs.declared.command.Command.the-variants.{Page}
 use Rattle.rules.proofs.Drive.{overwritten-nothing}
 use Rattle.rules.proofs.LogPages.{page-length}
-use Rattle.rules.proofs.Questions.{answered-yes}
-use Rattle.rules.proofs.Soundness.{apart}
 use Rattle.rules.specs.Effects.{effect, lengthsOf}
 use Rattle.rules.specs.LogPages.{page}
-use Rattle.rules.specs.Questions.{questions}
-use Rattle.rules.specs.Soundness.{sound}
+use Rattle.survey.proofs.Seeing.{limits-seen}
+use Rattle.tables.proofs.Answering.{accepted-call, later-no, sound-verdict, unsound-call}
+use Rattle.tables.specs.Serving.{drive}
+use Rattle.tables.specs.Verdicts.{verdictNumber}
+use borrow.Author.Needs.{needs}
 use Rattle.log_pages.proofs.pages.page.Statement.{statement}
 use Rattle.log_pages.proofs.pages.page.Tie as tie
 
--- Behind the verdict the table is sound, ..
-whole : (c : tie.After-enum-told) → sound (c .before .before .before .before .before .before .before .args .table) ≡ true
-whole c = sym (c .before .before .before .before .before .surveyed .ensures .tested) ∙ not-false _ (c .before .before .before .if1 .left)
-
--- .. every question was answered yes, ..
-asked : (c : tie.After-enum-told) (store words : List ℕ)
-    → firstNo (drop 1 (questions (drive (c .before .before .before .before .before .before .before .args .table) store) (lending (length store) (length words) (length (c .before .before .before .before .before .before .before .args .bytes .now))) (Page (c .before .before .before .before .before .before .before .args .domain) (c .before .before .before .before .before .before .before .args .block)))) ≡ 0
-asked c store words = sym (c .before .before .page-verdict .ensures store (length store) (length words)) ∙ ap verdictNumber (c .enum-told .given .1)
-
--- .. and so there is room for the page.
-room : (c : tie.After-enum-told) → 256 ≤ length (c .before .before .before .before .before .before .before .args .bytes .now)
-unfolding questions
-room c =
-    let a = c .before .before .before .before .before .before .before .args in
-    let v = drive (a .table) [] in
-    let lent = lending 0 0 (length (a .bytes .now)) in
-    let command = Page (a .domain) (a .block) in
-    leb-true 256 (length (a .bytes .now)) (answered-yes v lent command 4 (sound-verdict v lent command (whole c) ∙ asked c [] []))
-
-surveyed-requires : tie.Need-surveyed-requires
-surveyed-requires c κs = search needs
+-- Behind the verdict every question was answered yes.
+passed : (c : tie.After-enum-told) → let a = c .before .before .before .before .before .before .args in firstNo (pageQuestions (a .sight) (a .domain) (a .block) (length (a .bytes .now))) ≡ 0
+passed c = sym (c .before .before .page-verdict .ensures) ∙ ap verdictNumber (c .enum-told .given .1)
 
 returns : tie.Need-returns
-returns c = λ store words. let a = c .before .before .before .before .args in
-    let e : sound (a .table) ≡ false = sym (c .before .before .surveyed .ensures .tested) ∙ not-true _ (c .if1 .taken) in
-    unsound-call (drive (a .table) store) (Page (a .domain) (a .block)) words (a .bytes .now) e
+returns c = let a = c .before .before .before .args in λ t store words s b.
+    unsound-call (drive t store) (Page (a .domain) (a .block)) words (a .bytes .now) (sym (s .tested) ∙ not-true _ (c .if1 .taken))
 
 page-verdict-requires : tie.Need-page-verdict-requires
 page-verdict-requires c κs = search needs
@@ -61,33 +39,43 @@ enum-told : tie.Need-enum-told
 enum-told c = search needs
 
 put-identity-requires : tie.Need-put-identity-requires
-put-identity-requires c κs = room (c .before)
+put-identity-requires c κs = let a = c .before .before .before .before .before .before .before .before .before .args in
+    page-room (a .sight) (a .domain) (a .block) (length (a .bytes .now)) (passed (c .before .before .before))
 
 put-counts-requires : tie.Need-put-counts-requires
-put-counts-requires c κs = let long = c .before .before .bytes .given in (omega (arith, long, room (c .before .before .before .before .before)), apart (c .before .before .before .before .before .before .before .before .before .before .before .before .args .table) (whole (c .before .before .before .before .before)) .limits)
+put-counts-requires c κs = let z = c .before .before .before .before .before .before .before .before .before .before .before .before .before in let a = z .args in
+    let long = c .before .before .bytes .given in
+    let room = page-room (a .sight) (a .domain) (a .block) (length (a .bytes .now)) (passed (c .before .before .before .before .before .before .before)) in
+    (omega (arith, long, room), limits-seen (z .pre .0) (a .domain) (a .sight) (z .pre .1) (not-false _ (c .before .before .before .before .before .before .before .before .before .before .if1 .left)))
 
 returns-2 : tie.Need-returns-2
-returns-2 c = λ store words. let a = c .before .before .before .before .before .before .before .before .args in
-    let e : sound (a .table) ≡ true = sym (c .before .before .before .before .before .before .surveyed .ensures .tested) ∙ not-false _ (c .before .before .before .before .if1 .left) in
-    later-no (drive (a .table) store) (Page (a .domain) (a .block)) words (a .bytes .now) (c .before .reason .given .0 .0) e
-    (sym (ap verdictNumber (c .before .reason .given .1)) ∙ c .before .before .before .page-verdict .ensures store (length store) (length words))
+returns-2 c = let a = c .before .before .before .before .before .before .before .args in λ t store words s b.
+    let e = not-false _ (c .before .before .before .before .if1 .left) in
+    later-no (drive t store) (Page (a .domain) (a .block)) words (a .bytes .now) (c .before .reason .given .0 .0) (sym (s .tested) ∙ e)
+    (sym (ap verdictNumber (c .before .reason .given .1)) ∙ c .before .before .before .page-verdict .ensures ∙ page-asked t (a .domain) (a .block) (length (a .bytes .now)) (a .sight) store (length store) (length words) s b e)
 
 same-length : tie.Need-same-length
 same-length c = search needs
 
 returns-3 : tie.Need-returns-3
 unfolding effect
-returns-3 c = λ store words. let a = c .before .before .before .before .before .before .before .before .before .before .before .before .before .before .before .args in let t = a .table in let v = drive t store in
+returns-3 c = let a = c .before .before .before .before .before .before .before .before .before .before .before .before .before .before .before .before .args in λ t store words s b.
+    let v = drive t store in
+    let room = length (a .bytes .now) in
+    let told = passed (c .before .before .before .before .before .before .before .before .before .before) in
+    let e : a .sight .sound ≡ true = not-false _ (c .before .before .before .before .before .before .before .before .before .before .before .before .before .if1 .left) in
+    let same = b .same-block e (rw (← s .same-config) (page-inside (a .sight) (a .domain) (a .block) room told)) in
     accepted-call v (Page (a .domain) (a .block)) words (a .bytes .now) _ (page t (a .block))
-    (sound-verdict v (lengthsOf v words (a .bytes .now)) (Page (a .domain) (a .block)) (whole (c .before .before .before .before .before .before .before .before)) ∙ asked (c .before .before .before .before .before .before .before .before) store words)
+    (sound-verdict v (lengthsOf v words (a .bytes .now)) (Page (a .domain) (a .block)) (sym (s .tested) ∙ e)
+    ∙ sym (page-asked t (a .domain) (a .block) room (a .sight) store (length store) (length words) s b e)
+    ∙ told)
     refl refl (sym (overwritten-nothing words)) refl
-    (c .before .before .put-counts .ensures ∙ rw (c .before .before .before .before .before .before .put-identity .ensures) (fill-parts 12 (page t (a .block)) (a .bytes .now) (rw page-length (omega arith))))
+    (c .before .before .put-counts .ensures t (a .block) (s .same-config) same ∙ rw (c .before .before .before .before .before .before .put-identity .ensures t same) (fill-parts 12 (page t (a .block)) (a .bytes .now) (rw page-length (omega arith))))
 
 pub page-spec : {M : Type 1} → statement M
 page-spec =
     tie.close
     (tie.spec
-    surveyed-requires
     returns
     page-verdict-requires
     enum-known-reason

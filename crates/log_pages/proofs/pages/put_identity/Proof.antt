@@ -3,17 +3,14 @@ use Prim.Native.Nat.{_≤_}
 use mathlib.Core.Path.{refl, ap, _∙_}
 use native.Mathlib.Omega.{arith}
 use lib.ListN.{length}
-use borrow.Author.Needs.{needs}
 use Rattle.geometry.specs.Bytes.{littleEndian}
 use Rattle.log_pages.proofs.Filling.{next-field, one-field}
 use Rattle.model.specs.declared.block.Block.{Block}
 use Rattle.rules.specs.Drive.{blockAt}
 use Rattle.rules.specs.LogPages.{page, placementField, stateByte}
+use borrow.Author.Needs.{needs}
 use Rattle.log_pages.proofs.pages.put_identity.Statement.{statement}
 use Rattle.log_pages.proofs.pages.put_identity.Tie as tie
-
-block-at-requires : tie.Need-block-at-requires
-block-at-requires c κs = search needs
 
 put-field-requires : tie.Need-put-field-requires
 put-field-requires c κs = search needs
@@ -47,13 +44,12 @@ same-length c = search needs
 
 returns : tie.Need-returns
 unfolding page littleEndian
-returns c = let z = c .before .before .before .before .before .before .before .before .before .before .before .before .before .before .before .before .before .before .before .before .before .before .before .before .before .before .before .before .before in let a = z .args in let t = a .table in let b = blockAt t (a .block) in
-    let same = c .before .before .before .before .before .before .before .before .before .before .before .before .before .before .before .before .before .before .before .before .before .before .before .before .before .before .before .block-at .ensures in
+returns c = let a = c .before .before .before .before .before .before .before .before .before .before .before .before .before .before .before .before .before .before .before .before .before .before .before .before .before .before .before .before .args in λ t same. let b = blockAt t (a .number) in
     let l : 0 ≤ length (a .bytes .now) = omega arith in
     let f1 = one-field 2 1 refl (c .before .before .before .before .before .before .before .before .before .before .before .before .before .before .before .before .before .before .before .before .before .before .before .before .before .put-field .ensures) in
     let f2 = next-field 1 0 refl l f1 (c .before .before .before .before .before .before .before .before .before .before .before .before .before .before .before .before .before .before .before .before .before .put-field2 .ensures) in
     let f3 = next-field 1 (stateByte (b .state)) (c .before .before .before .before .before .before .before .before .before .before .before .before .before .before .before .before .before .state-byte .ensures ∙ ap (λ (x : Block). stateByte (x .state)) same) l f2 (c .before .before .before .before .before .before .before .before .before .before .before .before .before .before .before .before .put-field3 .ensures) in
-    let f4 = next-field 4 (a .block) refl l f3 (c .before .before .before .before .before .before .before .before .before .before .before .before .put-field4 .ensures) in
+    let f4 = next-field 4 (a .number) refl l f3 (c .before .before .before .before .before .before .before .before .before .before .before .before .put-field4 .ensures) in
     let f5 = next-field 2 (placementField (b .state)) (c .before .before .before .before .before .before .before .before .placement-field .ensures ∙ ap (λ (x : Block). placementField (x .state)) same) l f4 (c .before .before .before .before .before .before .before .put-field5 .ensures) in
     next-field 2 (b .holder) (ap (λ (x : Block). x .holder) same) l f5 (c .before .before .put-field6 .ensures) .are
 
@@ -61,7 +57,6 @@ pub put-identity-spec : {M : Type 1} → statement M
 put-identity-spec =
     tie.close
     (tie.spec
-    block-at-requires
     put-field-requires
     put-field-requires-2
     state-byte-requires

@@ -1,21 +1,12 @@
 -- The store and the domain are asked first, then the placement and the counts, one by one.
-use mathlib.Core.Bool.{_&&_}
-use mathlib.Core.List.{[], _∷_}
 use mathlib.Core.Path.{refl}
-use lib.Dec.{eqb, leb, ltb}
+use lib.ListN.{drop, take}
 use borrow.Author.Needs.{needs}
 use Rattle.geometry.proofs.Laws.Questions.{positive}
-use Rattle.geometry.specs.Address.{isDomainId}
-use Rattle.geometry.specs.Questions.{ask}
-use Rattle.geometry.specs.Shape.{storeLength}
+use Rattle.placements.specs.Asking.{placementArguments}
 use Rattle.tables.proofs.Answering.{chain, one-by-one-after}
-use Rattle.rules.specs.Drive.{domainAt}
-use Rattle.rules.specs.Questions.{exists, isCount, questions}
 use Rattle.placements.proofs.writing.placement_arguments.Statement.{statement}
 use Rattle.placements.proofs.writing.placement_arguments.Tie as tie
-
-domain-at-requires : tie.Need-domain-at-requires
-domain-at-requires c κs = search needs
 
 cast-range : tie.Need-cast-range
 cast-range c = search needs
@@ -33,25 +24,15 @@ and-requires-2 : tie.Need-and-requires-2
 and-requires-2 c κs = search needs
 
 returns : tie.Need-returns
-unfolding chain positive questions
-returns c = λ store start bytes. let z = c .before .before .before .before .before .before .before .args in let t = z .table in
-    rw (
-      c .and2 .ensures,
-      c .before .before .and .ensures,
-      c .before .before .before .store-verdict .ensures,
-      c .before .before .before .before .is-count .ensures,
-      c .before .before .before .before .before .before .domain-at .ensures,
-    )
-    (one-by-one-after
-    (ask 3 (eqb (z .entries) (storeLength (t .config) .0)) ∷ ask 4 (isDomainId (z .domain)) ∷ ask 5 (exists t (z .domain)) ∷ [])
-    (ask 6 (ltb (z .placement) (domainAt t (z .domain) .placements) && isCount (z .count)) ∷ ask 7 (leb (z .count .0) (z .room)) ∷ [])
-    refl refl)
+unfolding chain positive placementArguments
+returns c = let z = c .before .before .before .before .before .before .before .args in let qs = placementArguments (z .sight) (z .entries) (z .room) (z .domain) (z .placement) (z .count) in
+    rw (c .and2 .ensures, c .before .before .and .ensures, c .before .before .before .store-verdict .ensures, c .before .before .before .before .is-count .ensures)
+    (one-by-one-after (take 3 qs) (drop 3 qs) refl refl)
 
 pub placement-arguments-spec : {M : Type 1} → statement M
 placement-arguments-spec =
     tie.close
     (tie.spec
-    domain-at-requires
     cast-range
     is-count-requires
     store-verdict-requires

@@ -1,139 +1,64 @@
--- An unsound table, a no in the first part of the questions or in the second, or the write.
-use Prim.Native.Nat.{ℕ}
-use mathlib.Core.Bool.{true}
-use mathlib.Core.List.{List, []}
-use mathlib.Core.Path.{_≡_, refl, sym, ap, _∙_}
+-- An unsound table, a later no, or the write.
+use mathlib.Core.List.{_++_}
+use mathlib.Core.Path.{_≡_, sym, ap, _∙_}
 use native.Mathlib.Omega.{arith}
-use lib.ListN.{drop, length, take}
+use lib.ListN.{length}
 use borrow.Author.Needs.{needs}
 use borrow.Author.Tests.{not-false, not-true}
-use Rattle.geometry.proofs.Laws.Shape.{limits}
 use Rattle.geometry.specs.Questions.{firstNo}
-use Rattle.placements.proofs.Accepted.{InRange, in-range, may-place, place-fits}
-use Rattle.tables.proofs.Answering.{accepted-call, first-part, later-no, second-part, sound-verdict, unsound-call}
-use Rattle.tables.specs.Serving.{answering, drive, served}
-use Rattle.tables.specs.Verdicts.{verdictNumber}
-use Rattle.model.specs.declared.answer.Answer.the-variants.{Done}
-use Rattle.model.specs.declared.command.Command.{Command}
 use Rattle.model.specs.declared.command.Command.the-variants.{WriteByPlacement}
-use Rattle.rules.proofs.Drive.{overwritten-nothing}
-use Rattle.rules.proofs.Soundness.{apart}
-use Rattle.rules.specs.Drive.{Drive}
-use Rattle.rules.specs.Effects.{effect, lengthsOf, verdict}
-use Rattle.rules.specs.Questions.{Lengths, questions}
-use Rattle.rules.specs.Soundness.{sound}
+use Rattle.model.specs.declared.table.Table.{Table}
+use Rattle.placements.proofs.Accepted.{few-placements, may-place, place-done, place-fits, places}
+use Rattle.placements.proofs.Asked.{placement-asked}
+use Rattle.placements.specs.Asking.{placementArguments, placementState}
+use Rattle.survey.proofs.Outcomes.{later-outcome, unsound-outcome}
+use Rattle.survey.specs.Sight.{Sees}
+use Rattle.tables.specs.Verdicts.{verdictNumber}
 use Rattle.placements.proofs.writing.write_by_placement.Statement.{statement}
 use Rattle.placements.proofs.writing.write_by_placement.Tie as tie
 
--- The drive, the call and the lengths that are lent.
-abbrev driveIn : tie.Start → Drive
-driveIn z = drive (z .args .table) (z .args .store .now)
+-- No question is answered no.
+passed : (c : tie.After-enum-told) → let z = c .before .before .before .before .before .before .before .args in (t : Table) → Sees t (z .domain) (z .sight)
+    → firstNo (placementArguments (z .sight) (length (z .store .now)) (length (z .words .now)) (z .domain) (z .placement) (z .count) ++ placementState t (z .sight) (z .domain) (z .start) (z .count)) ≡ 0
+passed c t s = sym (c .before .before .placement-verdict .ensures t s) ∙ ap verdictNumber (c .enum-told .given .1)
 
-abbrev callIn : tie.Start → Command
-callIn z = WriteByPlacement (z .args .domain) (z .args .placement) (z .args .start) (z .args .count)
-
-abbrev lentIn : tie.Start → List ℕ → Lengths
-lentIn z bytes = lengthsOf (driveIn z) (z .args .words .now) bytes
-
--- Past the first test the table is sound.
-is-sound : (c : tie.Else1) → sound (c .before .before .before .before .before .args .table) ≡ true
-is-sound c = sym (c .before .before .surveyed .ensures .tested) ∙ not-false _ (c .if1 .left)
-
--- Past the second no question of the first part is answered no, ..
-passed : (c : tie.After-enum-told) (bytes : List ℕ) → let z = c .before .before .before .before .before .before .before .before in
-    firstNo (take 5 (drop 1 (questions (driveIn z) (lentIn z bytes) (callIn z)))) ≡ 0
-passed c bytes = let z = c .before .before .before .before .before .before .before .before in
-    sym (c .before .before .placement-arguments .ensures (z .args .store .now) (z .args .start) (length bytes))
-    ∙ ap verdictNumber (c .enum-told .given .1)
-
--- .. so that the arguments are in range.
-ranges : (c : tie.After-enum-told) →
-    let a = c .before .before .before .before .before .before .before .before .args in InRange (a .domain) (a .placement) (a .count)
-ranges c = let z = c .before .before .before .before .before .before .before .before in
-    in-range (driveIn z) (lentIn z []) (z .args .domain) (z .args .placement) (z .args .start) (z .args .count)
-    (is-sound (c .before .before .before)) (passed c [])
-
--- Past the third every question is answered yes.
-accepted : (c : tie.After-enum-told2) (bytes : List ℕ) → let z = c .before .before .before .before .before .before .before .before .before .before .before .before in
-    verdict (driveIn z) (lentIn z bytes) (callIn z) ≡ 0
-accepted c bytes = let z = c .before .before .before .before .before .before .before .before .before .before .before .before in
-    sound-verdict (driveIn z) (lentIn z bytes) (callIn z) (is-sound (c .before .before .before .before .before .before .before))
-    ∙ second-part (driveIn z) (lentIn z bytes) (callIn z) 5 (passed (c .before .before .before .before) bytes)
-    ∙ sym (c .before .before .placement-state .ensures (z .args .store .now) (lentIn z bytes))
-    ∙ ap verdictNumber (c .enum-told2 .given .1)
-
-surveyed-requires : tie.Need-surveyed-requires
-surveyed-requires c κs = search needs
-
-refused-requires : tie.Need-refused-requires
-refused-requires c κs = search needs
+refusal-requires : tie.Need-refusal-requires
+refusal-requires c κs = search needs
 
 returns : tie.Need-returns
-returns c = λ bytes. let z = c .before .before .before .before .before .before in
-    rw (c .refused .ensures) (unsound-call (driveIn z) (callIn z) (z .args .words .now) bytes
-    (sym (c .before .before .before .surveyed .ensures .tested) ∙ not-true _ (c .before .if1 .taken)))
+returns c = let z = c .before .before .before .before .before .args in λ t bytes s q f.
+    unsound-outcome t (z .domain) (z .sight) (WriteByPlacement (z .domain) (z .placement) (z .start) (z .count)) (c .refusal .result) (z .store .now) (z .words .now) bytes s (not-true _ (c .before .if1 .taken)) (c .refusal .ensures)
 
-placement-arguments-requires : tie.Need-placement-arguments-requires
-placement-arguments-requires c κs = is-sound c
+placement-verdict-requires : tie.Need-placement-verdict-requires
+placement-verdict-requires c κs = let z = c .before .before .before .before in ((z .pre .0, z .pre .1), not-false _ (c .if1 .left))
 
 enum-known-reason : tie.Need-enum-known-reason
 enum-known-reason c = search needs
 
-refused-requires-2 : tie.Need-refused-requires-2
-refused-requires-2 c κs = search needs
+refusal-requires-2 : tie.Need-refusal-requires-2
+refusal-requires-2 c κs = search needs
 
 enum-told : tie.Need-enum-told
 enum-told c = search needs
 
 cast-p : tie.Need-cast-p
-cast-p c = omega (arith, ranges c .placement)
+cast-p c = let z = c .before .before .before .before .before .before .before in let a = z .args in let t = z .pre .0 in
+    omega (arith, few-placements t (length (a .store .now)) (length (a .words .now)) (a .domain) (a .placement) (a .start) (a .count) (a .sight) (z .pre .1) (not-false _ (c .before .before .before .if1 .left)) (passed c t (z .pre .1)))
 
-open-block-requires : tie.Need-open-block-requires
-open-block-requires c κs = let t = c .before .before .before .before .before .before .before .before .args .table in
-    limits (t .config) (apart t (is-sound (c .before .before .before)) .limits) .ranges .blocks .most
-
-placement-state-requires : tie.Need-placement-state-requires
-placement-state-requires c κs = let range = ranges (c .before) in (
-  (c .before .before .before .before .before .before .surveyed .ensures, not-false _ (c .before .before .before .before .if1 .left)),
-  (range .id, (range .counted, c .open-block .ensures)),
-)
-
-enum-known-reason-2 : tie.Need-enum-known-reason-2
-enum-known-reason-2 c = search needs
-
-refused-requires-3 : tie.Need-refused-requires-3
-refused-requires-3 c κs = search needs
-
-enum-told-2 : tie.Need-enum-told-2
-enum-told-2 c = search needs
-
-written-by-placement-requires : tie.Need-written-by-placement-requires
-written-by-placement-requires c κs =
-    let z = c .before .before .before .before .before .before .before .before .before .before .before .before .before .before in
-    let a = z .args in
-    let e = accepted (c .before .before) [] in
-    let fits = place-fits (driveIn z) (a .words .now) [] (a .domain) (a .placement) (a .start) (a .count) e in (
-      may-place (driveIn z) (a .words .now) [] (a .domain) (a .placement) (a .start) (a .count) e,
-      (c .before .before .before .before .before .open-block .ensures, fits),
+placed-requires : tie.Need-placed-requires
+placed-requires c κs = let z = c .before .before .before .before .before .before .before .before .before in let a = z .args in let t = z .pre .0 in
+    let pass = passed (c .before .before) t (z .pre .1) in (
+      may-place t (length (a .store .now)) (length (a .words .now)) (a .domain) (a .placement) (a .start) (a .count) (a .sight) (z .pre .1) (z .pre .2) (not-false _ (c .before .before .before .before .before .if1 .left)) pass,
+      place-fits t (length (a .store .now)) (length (a .words .now)) (a .domain) (a .placement) (a .start) (a .count) (a .sight) pass,
     )
 
 returns-2 : tie.Need-returns-2
-returns-2 c = λ bytes. let z = c .before .before .before .before .before .before .before .before .before .before in
-    let reason = c .before .before .reason .given .0 .0 in
-    rw (c .refused2 .ensures)
-    (later-no (driveIn z) (callIn z) (z .args .words .now) bytes reason (is-sound (c .before .before .before .before .before))
-    (first-part (driveIn z) (lentIn z bytes) (callIn z) 5 reason
-    (sym (ap verdictNumber (c .before .before .reason .given .1))
-    ∙ c .before .before .before .before .placement-arguments .ensures (z .args .store .now) (z .args .start) (length bytes))))
-
-returns-3 : tie.Need-returns-3
-returns-3 c = λ bytes. let z = c .before .before .before .before .before .before .before .before .before .before .before .before .before .before in
-    rw (c .refused3 .ensures)
-    (later-no (driveIn z) (callIn z) (z .args .words .now) bytes (c .before .before .reason2 .given .0 .0)
-    (is-sound (c .before .before .before .before .before .before .before .before .before))
-    (sym (ap verdictNumber (c .before .before .reason2 .given .1))
-    ∙ c .before .before .before .before .placement-state .ensures (z .args .store .now) (lentIn z bytes)
-    ∙ sym (second-part (driveIn z) (lentIn z bytes) (callIn z) 5 (passed (c .before .before .before .before .before .before) bytes))))
+returns-2 c = let z = c .before .before .before .before .before .before .before .before .before .args in λ t bytes s q f.
+    let e = not-false _ (c .before .before .before .before .before .if1 .left) in
+    later-outcome t (z .domain) (z .sight) (WriteByPlacement (z .domain) (z .placement) (z .start) (z .count)) (c .refusal2 .result) (c .before .before .reason .given .0 .0) (z .store .now) (z .words .now) bytes s e
+    (sym (ap verdictNumber (c .before .before .reason .given .1)) ∙ c .before .before .before .before .placement-verdict .ensures t s
+    ∙ placement-asked t (z .domain) (z .placement) (z .sight) s q e (z .store .now) (length (z .store .now)) (length (z .words .now)) (length bytes) (z .start) (z .count))
+    (c .refusal2 .ensures)
 
 same-length : tie.Need-same-length
 same-length c = search needs
@@ -141,36 +66,29 @@ same-length c = search needs
 same-length-2 : tie.Need-same-length-2
 same-length-2 c = search needs
 
-returns-4 : tie.Need-returns-4
-unfolding effect
-returns-4 c = λ bytes.
-    let z = c .before .before .before .before .before .before .before .before .before .before .before .before .before .before .before .before .before .before .before in
-    let w = c .before .before .before .before .written-by-placement in
-    accepted-call (driveIn z) (callIn z) (z .args .words .now) bytes
-    (served (answering (w .result) Done) (w .last .1 .1 .1 .1 .1 .1 .0) (w .last .1 .1 .1 .1 .1 .1 .1 .0) bytes) []
-    (accepted (c .before .before .before .before .before .before .before) bytes)
-    refl (w .ensures .leaves) (w .ensures .fills) refl (sym (overwritten-nothing bytes))
+returns-3 : tie.Need-returns-3
+returns-3 c = let z = c .before .before .before .before .before .before .before .before .before .before .before .before .before .before .args in λ t bytes s q f.
+    let e = not-false _ (c .before .before .before .before .before .before .before .before .before .before .if1 .left) in
+    let pass = passed (c .before .before .before .before .before .before .before) t s in
+    let w = c .before .before .before .before .placed in
+    place-done t (z .store .now) (z .words .now) bytes (z .domain) (z .placement) (z .start) (z .count) (w .result) (w .last .1 .1 .1 .1 .1 .0) (w .last .1 .1 .1 .1 .1 .1 .0)
+    (sym (s .tested) ∙ e)
+    (sym (placement-asked t (z .domain) (z .placement) (z .sight) s q e (z .store .now) (length (z .store .now)) (length (z .words .now)) (length bytes) (z .start) (z .count)) ∙ pass)
+    (w .ensures t (places t (length (z .store .now)) (length (z .words .now)) (z .domain) (z .placement) (z .start) (z .count) (z .sight) s q f e pass))
 
 pub write-by-placement-spec : {M : Type 1} → statement M
 write-by-placement-spec =
     tie.close
     (tie.spec
-    surveyed-requires
-    refused-requires
+    refusal-requires
     returns
-    placement-arguments-requires
+    placement-verdict-requires
     enum-known-reason
-    refused-requires-2
+    refusal-requires-2
     enum-told
     cast-p
-    open-block-requires
-    placement-state-requires
-    enum-known-reason-2
-    refused-requires-3
-    enum-told-2
-    written-by-placement-requires
+    placed-requires
     returns-2
-    returns-3
     same-length
     same-length-2
-    returns-4)
+    returns-3)

@@ -61,7 +61,7 @@ loop-again c = let l = c .before .before .before .before .loop in let a = c .bef
       omega (arith, c .if1 .taken, l .inv .0),
       l .inv .1,
       and-assoc (l .differs) (not (sameInChain m (a .holder) (a .serial) (l .at))) (chainDiffers m (a .holder) (a .serial) (mark m (576 + (l .at - 1)) % 512))
-      ∙ ap (λ (x : Bool). l .differs && x) (rw (← e) (sym (chain-next m (a .holder) (a .serial) (l .at) (c .before .before .before .loop-test .taken)))) ∙ l .inv .2,
+          ∙ ap (λ (x : Bool). l .differs && x) (rw (← e) (sym (chain-next m (a .holder) (a .serial) (l .at) (c .before .before .before .loop-test .taken)))) ∙ l .inv .2,
     )
 
 loop-less-2 : tie.Need-loop-less-2 Inv-loop μ-loop
@@ -73,9 +73,9 @@ loop-again-2 c = let l = c .before .before .before .before .loop in let a = c .b
       omega arith,
       l .inv .1,
       and-assoc (l .differs) (not (sameInChain m (a .holder) (a .serial) (l .at))) (chainDiffers m (a .holder) (a .serial) 0)
-      ∙ ap (λ (x : Bool). l .differs && x)
-      (ap (λ (x : ℕ). not (sameInChain m (a .holder) (a .serial) (l .at)) && chainDiffers m (a .holder) (a .serial) x) (sym e)
-      ∙ sym (chain-next m (a .holder) (a .serial) (l .at) (c .before .before .before .loop-test .taken))) ∙ l .inv .2,
+          ∙ ap (λ (x : Bool). l .differs && x)
+          (ap (λ (x : ℕ). not (sameInChain m (a .holder) (a .serial) (l .at)) && chainDiffers m (a .holder) (a .serial) x) (sym e)
+          ∙ sym (chain-next m (a .holder) (a .serial) (l .at) (c .before .before .before .loop-test .taken))) ∙ l .inv .2,
     )
 
 returns : tie.Need-returns Inv-loop μ-loop

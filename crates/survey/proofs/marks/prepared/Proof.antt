@@ -2,7 +2,6 @@ use Prim.Native.Nat.{_-_, _≤_}
 use mathlib.Core.Path.{_≡_, refl, _∙_, ap}
 use native.Mathlib.Omega.{arith}
 use native.Mathlib.Numerals.{add-one}
-
 use Rattle.survey.specs.Marks.{preparedTo}
 use Rattle.survey.proofs.marks.prepared.Statement.{statement}
 use Rattle.survey.proofs.marks.prepared.Tie as tie

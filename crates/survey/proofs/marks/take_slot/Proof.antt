@@ -10,12 +10,12 @@ use Rattle.survey.proofs.marks.take_slot.Lts as lts
 
 returns : tie.Need-returns
 returns c = record {
-      entries = refl;
-      first = rw (eq-eqb _ 256 (c .if1 .taken));
-      now-taken = λ ne. absurd (ne (c .if1 .taken));
-      others = λ j ne. refl;
-      none = λ e. refl;
-    }
+  entries = refl;
+  first = rw (eq-eqb _ 256 (c .if1 .taken));
+  now-taken = λ ne. absurd (ne (c .if1 .taken));
+  others = λ j ne. refl;
+  none = λ e. refl;
+}
 
 add-taken : tie.Need-add-taken
 add-taken c = search needs

@@ -17,10 +17,10 @@ same-length c = search needs
 
 returns : tie.Need-returns
 returns c = let z = c .before .before .before .before .before .before .before .args in let e = c .notice .ensures in record {
-      ok = c .before .before .before .before .test-block .result;
-      tested = c .before .before .before .before .test-block .ensures;
-      found = rw e;
-    }
+  ok = c .before .before .before .before .test-block .result;
+  tested = c .before .before .before .before .test-block .ensures;
+  found = rw e;
+}
 
 pub passed-spec : {M : Type 1} → statement M
 passed-spec = tie.close (tie.spec test-block-requires notice-requires same-length returns)

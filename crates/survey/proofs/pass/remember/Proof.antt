@@ -42,15 +42,15 @@ same-length c = search needs
 
 returns : tie.Need-returns
 returns c = let z = c .before .before .before .before .before .before .before .before .before .before .before .before .before .before .before .before .before .before .args in let b = z .block in record {
-      counted = c .before .before .before .before .before .before .before .before .before .before .before .before .before .count-block .last .0;
-      placed = c .before .before .before .before .before .before .before .before .take-slot .last .0;
-      new = c .before .before .before .before .before .before .before .before .take-slot .result;
-      differs = c .before .before .link-block .result;
-      counts = rw (← c .before .before .before .before .before .before .before .before .before .before .before .before .before .before .before .slot .ensures .0, ← c .before .before .before .before .before .before .before .before .before .before .before .before .before .before .is-open .ensures) (c .before .before .before .before .before .before .before .before .before .before .before .before .before .count-block .ensures);
-      takes = rw (← c .before .before .before .before .before .before .before .before .before .placement-slot .ensures .0) (c .before .before .before .before .before .before .before .before .take-slot .ensures);
-      links = rw (← c .before .before .before .before .before .serial-key .ensures .0, ← c .before .before .before .before .descriptor-code .ensures .0) (c .before .before .link-block .ensures);
-      both = refl;
-    }
+  counted = c .before .before .before .before .before .before .before .before .before .before .before .before .before .count-block .last .0;
+  placed = c .before .before .before .before .before .before .before .before .take-slot .last .0;
+  new = c .before .before .before .before .before .before .before .before .take-slot .result;
+  differs = c .before .before .link-block .result;
+  counts = rw (← c .before .before .before .before .before .before .before .before .before .before .before .before .before .before .before .slot .ensures .0, ← c .before .before .before .before .before .before .before .before .before .before .before .before .before .before .is-open .ensures) (c .before .before .before .before .before .before .before .before .before .before .before .before .before .count-block .ensures);
+  takes = rw (← c .before .before .before .before .before .before .before .before .before .placement-slot .ensures .0) (c .before .before .before .before .before .before .before .before .take-slot .ensures);
+  links = rw (← c .before .before .before .before .before .serial-key .ensures .0, ← c .before .before .before .before .descriptor-code .ensures .0) (c .before .before .link-block .ensures);
+  both = refl;
+}
 
 pub remember-spec : {M : Type 1} → statement M
 remember-spec =

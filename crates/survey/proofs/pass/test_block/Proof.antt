@@ -21,10 +21,10 @@ is-clear-requires c κs = search needs
 
 returns : tie.Need-returns
 returns c = let e = sym (c .before .before .is-free .ensures) ∙ c .before .if1 .taken in record {
-      free = λ _. (c .is-clear .ensures, refl);
-      unsound = λ f _. absurd (true≢false (sym e ∙ f));
-      held = λ f _. absurd (true≢false (sym e ∙ f));
-    }
+  free = λ _. (c .is-clear .ensures, refl);
+  unsound = λ f _. absurd (true≢false (sym e ∙ f));
+  held = λ f _. absurd (true≢false (sym e ∙ f));
+}
 
 slot-requires : tie.Need-slot-requires
 slot-requires c κs = search needs

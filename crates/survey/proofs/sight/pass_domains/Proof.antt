@@ -73,11 +73,11 @@ loop-less c = omega arith
 loop-again : tie.Need-loop-again Inv-loop μ-loop
 unfolding domainsSound coveredTo
 loop-again c = let l = c .before .before .before .before .before .before .before .before .before .loop in let z = c .before .before .before .before .before .before .before .before .before .before .before .args in (
-      omega arith,
-      rw (c .larger .ensures) (omega (arith, c .before .before .before .before .before .wide .ensures .1, l .inv .1)),
-      rw (all-next, c .before .before .domain-sound .ensures, c .before .before .before .wide2 .ensures .0, c .before .before .before .before .before .wide .ensures .0, l .inv .2),
-      rw (c .larger .ensures) (omega (arith, l .inv .3, c .before .before .before .before .before .wide .ensures .0, sum-next (λ i. max (getD (z .t1) i clearDomain .reserved) (mark (z .marks .now) i)) (l .n))),
-    )
+  omega arith,
+  rw (c .larger .ensures) (omega (arith, c .before .before .before .before .before .wide .ensures .1, l .inv .1)),
+  rw (all-next, c .before .before .domain-sound .ensures, c .before .before .before .wide2 .ensures .0, c .before .before .before .before .before .wide .ensures .0, l .inv .2),
+  rw (c .larger .ensures) (omega (arith, l .inv .3, c .before .before .before .before .before .wide .ensures .0, sum-next (λ i. max (getD (z .t1) i clearDomain .reserved) (mark (z .marks .now) i)) (l .n))),
+)
 
 returns : tie.Need-returns Inv-loop μ-loop
 returns c = let l = c .before .loop in let h : l .n ≡ 16 = omega arith in

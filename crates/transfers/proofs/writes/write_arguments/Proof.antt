@@ -1,15 +1,10 @@
 -- The store and the domain are asked first, then the block and the counts, one by one.
-use mathlib.Core.Bool.{_&&_}
-use mathlib.Core.List.{[], _∷_}
 use mathlib.Core.Path.{refl}
-use lib.Dec.{eqb, leb}
+use lib.ListN.{drop, take}
 use borrow.Author.Needs.{needs}
 use Rattle.geometry.proofs.Laws.Questions.{positive}
-use Rattle.geometry.specs.Address.{isBlock, isDomainId}
-use Rattle.geometry.specs.Questions.{ask}
-use Rattle.geometry.specs.Shape.{storeLength}
 use Rattle.tables.proofs.Answering.{chain, one-by-one-after}
-use Rattle.rules.specs.Questions.{exists, isCount, questions}
+use Rattle.transfers.specs.Transfers.{writeArguments}
 use Rattle.transfers.proofs.writes.write_arguments.Statement.{statement}
 use Rattle.transfers.proofs.writes.write_arguments.Tie as tie
 
@@ -26,13 +21,10 @@ and-requires-2 : tie.Need-and-requires-2
 and-requires-2 c κs = search needs
 
 returns : tie.Need-returns
-unfolding chain positive questions
-returns c = λ store start bytes. let z = c .before .before .before .before .before .before .args in let t = z .table in
+unfolding chain positive writeArguments
+returns c = let z = c .before .before .before .before .before .before .args in let qs = writeArguments (z .sight) (z .entries) (z .room) (z .domain) (z .block) (z .count) in
     rw (c .and2 .ensures, c .before .before .and .ensures, c .before .before .before .store-verdict .ensures, c .before .before .before .before .is-count .ensures)
-    (one-by-one-after
-    (ask 3 (eqb (z .entries) (storeLength (t .config) .0)) ∷ ask 4 (isDomainId (z .domain)) ∷ ask 5 (exists t (z .domain)) ∷ [])
-    (ask 6 (isBlock (t .config) (z .block) && isCount (z .count)) ∷ ask 7 (leb (z .count .0) (z .room)) ∷ [])
-    refl refl)
+    (one-by-one-after (take 3 qs) (drop 3 qs) refl refl)
 
 pub write-arguments-spec : {M : Type 1} → statement M
 write-arguments-spec =

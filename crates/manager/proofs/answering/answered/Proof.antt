@@ -1,0 +1,268 @@
+-- Each arm is the contract of the command's function, with what is seen of the table that the pass went over.
+use mathlib.Core.Path.{_≡_, refl}
+use Rattle.manager.proofs.Seeing.{Sighting, Sights, left, marks-long, seen, sees-read, sighting}
+use Rattle.manager.specs.Answering.{Answered}
+use Rattle.manager.specs.Subjects.{subjectOf}
+use Rattle.model.specs.declared.command.Command.{Command}
+use Rattle.model.specs.declared.table.Table.{Table}
+use Rattle.survey.specs.Pass.{passing}
+use borrow.Author.Needs.{needs}
+use Rattle.manager.proofs.answering.answered.Statement.{statement}
+use Rattle.manager.proofs.answering.answered.Tie as tie
+
+-- What is seen once the sight is made, if the command is k: of every table, and of one.
+made : (c : tie.After-sighted) (k : Command) → c .before .before .before .before .before .before .args .command ≡ k
+    → Sighting (c .before .before .before .before .before .before .args .config) (c .before .before .before .before .before .before .args .domains) k
+    (passing (c .before .before .before .before .before .before .args .pass) (c .before .before .before .before .before .before .args .marks .now)) (c .sighted .result)
+made c k told = let z = c .before .before .before .before .before .before .args in
+    sighting (z .config) (z .domains) (z .command) k (c .before .subject-of .result) (passing (z .pass) (z .marks .now)) (c .sighted .result)
+    (c .before .subject-of .ensures) told (c .sighted .ensures)
+
+one : (c : tie.After-sighted) (k : Command) → c .before .before .before .before .before .before .args .command ≡ k
+    → (t : Table) × Sights t (subjectOf (t .config) k) (c .before .before .before .before .before .before .args .marks .now) (c .sighted .result)
+one c k told = let z = c .before .before .before .before .before .before in
+    seen (z .args .config) (z .args .domains) (z .args .command) k (passing (z .args .pass) (z .args .marks .now)) (c .sighted .result) (z .pre) told (made c k told)
+
+subject-of-requires : tie.Need-subject-of-requires
+subject-of-requires c κs = search needs
+
+sighted-requires : tie.Need-sighted-requires
+sighted-requires c κs = let z = c .before .before .before .before .before in marks-long (z .args .config) (z .args .domains) (z .args .command) (passing (z .args .pass) (z .args .marks .now)) (z .pre)
+
+enum-known-command : tie.Need-enum-known-command
+enum-known-command c = search needs
+
+create-requires : tie.Need-create-requires
+unfolding subjectOf
+create-requires c κs = let o = one (c .before .before .before) _ (c .before .command .given .1) in (o .0, o .1 .sees)
+
+enum-known-command-2 : tie.Need-enum-known-command-2
+enum-known-command-2 c = search needs
+
+change-capacity-requires : tie.Need-change-capacity-requires
+unfolding subjectOf
+change-capacity-requires c κs = let o = one (c .before .before .before) _ (c .before .command2 .given .1) in (o .0, o .1 .sees)
+
+enum-known-command-3 : tie.Need-enum-known-command-3
+enum-known-command-3 c = search needs
+
+delete-requires : tie.Need-delete-requires
+delete-requires c κs = search needs
+
+enum-known-command-4 : tie.Need-enum-known-command-4
+enum-known-command-4 c = search needs
+
+erase-requires : tie.Need-erase-requires
+unfolding subjectOf
+erase-requires c κs = let o = one (c .before .before .before .before) _ (c .before .before .command4 .given .1) in (o .0, o .1 .sees, o .1 .names refl, o .1 .chooses refl)
+
+enum-known-command-5 : tie.Need-enum-known-command-5
+enum-known-command-5 c = search needs
+
+close-requires : tie.Need-close-requires
+close-requires c κs = search needs
+
+enum-known-command-6 : tie.Need-enum-known-command-6
+enum-known-command-6 c = search needs
+
+free-requires : tie.Need-free-requires
+free-requires c κs = search needs
+
+enum-known-command-7 : tie.Need-enum-known-command-7
+enum-known-command-7 c = search needs
+
+write-by-placement-requires : tie.Need-write-by-placement-requires
+unfolding subjectOf
+write-by-placement-requires c κs = let o = one (c .before .before .before .before .before) _ (c .before .before .before .command7 .given .1) in (o .0, o .1 .sees, o .1 .places refl, o .1 .chooses refl)
+
+enum-known-command-8 : tie.Need-enum-known-command-8
+enum-known-command-8 c = search needs
+
+write-by-block-requires : tie.Need-write-by-block-requires
+unfolding subjectOf
+write-by-block-requires c κs = let o = one (c .before .before .before .before .before) _ (c .before .before .before .command8 .given .1) in (o .0, o .1 .sees)
+
+enum-known-command-9 : tie.Need-enum-known-command-9
+enum-known-command-9 c = search needs
+
+read-requires : tie.Need-read-requires
+unfolding subjectOf
+read-requires c κs = let o = one (c .before .before .before .before .before) _ (c .before .before .before .command9 .given .1) in (o .0, o .1 .sees)
+
+unchanged-requires : tie.Need-unchanged-requires
+unchanged-requires c κs = search needs
+
+enum-known-command-10 : tie.Need-enum-known-command-10
+enum-known-command-10 c = search needs
+
+page-requires : tie.Need-page-requires
+unfolding subjectOf
+page-requires c κs = let o = one (c .before .before .before .before) _ (c .before .before .command10 .given .1) in (o .0, o .1 .sees)
+
+unchanged-requires-2 : tie.Need-unchanged-requires-2
+unchanged-requires-2 c κs = search needs
+
+enum-known-command-11 : tie.Need-enum-known-command-11
+enum-known-command-11 c = search needs
+
+list-requires : tie.Need-list-requires
+unfolding subjectOf
+list-requires c κs = let o = one (c .before .before .before .before) _ (c .before .before .command11 .given .1) in let z = c .before .before .before .before .before .before .before .before .before .before in
+    ((o .0, o .1 .sees, o .1 .lists refl), marks-long (z .args .config) (z .args .domains) (z .args .command) (passing (z .args .pass) (z .args .marks .now)) (z .pre))
+
+unchanged-requires-3 : tie.Need-unchanged-requires-3
+unchanged-requires-3 c κs = search needs
+
+enum-known-command-12 : tie.Need-enum-known-command-12
+enum-known-command-12 c = search needs
+
+pulse-requires : tie.Need-pulse-requires
+pulse-requires c κs = search needs
+
+returns : tie.Need-returns
+unfolding subjectOf Answered
+returns c = let z = c .before .before .before .before .before .before .before .before .before .before .args in let told = c .before .before .command .given .1 in
+    rw told (λ t e f p. c .create .ensures t (z .store .now) (z .words .now) (z .bytes .now) (made (c .before .before .before .before) _ told t e f p .sees))
+
+returns-2 : tie.Need-returns-2
+unfolding subjectOf Answered
+returns-2 c = let z = c .before .before .before .before .before .before .before .before .before .before .args in let told = c .before .before .command2 .given .1 in
+    rw told (λ t e f p. c .change-capacity .ensures t (z .store .now) (z .words .now) (z .bytes .now) (made (c .before .before .before .before) _ told t e f p .sees))
+
+returns-3 : tie.Need-returns-3
+unfolding subjectOf Answered
+returns-3 c = let z = c .before .before .before .before .before .before .before .before .before .before .args in let told = c .before .before .command3 .given .1 in
+    rw told (λ t e f p. c .delete .ensures t (z .store .now) (z .words .now) (z .bytes .now) (made (c .before .before .before .before) _ told t e f p .sees))
+
+same-length : tie.Need-same-length
+same-length c = search needs
+
+returns-4 : tie.Need-returns-4
+unfolding subjectOf Answered
+returns-4 c = let z = c .before .before .before .before .before .before .before .before .before .before .before .before .before .args in let told = c .before .before .before .before .before .command4 .given .1 in
+    rw told (λ t e f p. let s = made (c .before .before .before .before .before .before .before) _ told t e f p in c .before .before .erase .ensures t (z .words .now) (z .bytes .now) (s .sees) (s .names refl) (s .chooses refl))
+
+returns-5 : tie.Need-returns-5
+unfolding subjectOf Answered
+returns-5 c = let z = c .before .before .before .before .before .before .before .before .before .before .args in let told = c .before .before .command5 .given .1 in
+    rw told (λ t e f p. let s = made (c .before .before .before .before) _ told t e f p in c .close .ensures t (z .store .now) (z .words .now) (z .bytes .now) (s .sees) (s .names refl))
+
+returns-6 : tie.Need-returns-6
+unfolding subjectOf Answered
+returns-6 c = let z = c .before .before .before .before .before .before .before .before .before .before .args in let told = c .before .before .command6 .given .1 in
+    rw told (λ t e f p. let s = made (c .before .before .before .before) _ told t e f p in c .free .ensures t (z .store .now) (z .words .now) (z .bytes .now) (s .sees) (s .names refl))
+
+same-length-2 : tie.Need-same-length-2
+same-length-2 c = search needs
+
+same-length-3 : tie.Need-same-length-3
+same-length-3 c = search needs
+
+returns-7 : tie.Need-returns-7
+unfolding subjectOf Answered
+returns-7 c = let z = c .before .before .before .before .before .before .before .before .before .before .before .before .before .before .before .before .args in let told = c .before .before .before .before .before .before .before .before .command7 .given .1 in
+    rw told (λ t e f p. let s = made (c .before .before .before .before .before .before .before .before .before .before) _ told t e f p in c .before .before .before .before .write-by-placement .ensures t (z .bytes .now) (s .sees) (s .places refl) (s .chooses refl))
+
+same-length-4 : tie.Need-same-length-4
+same-length-4 c = search needs
+
+same-length-5 : tie.Need-same-length-5
+same-length-5 c = search needs
+
+returns-8 : tie.Need-returns-8
+unfolding subjectOf Answered
+returns-8 c = let z = c .before .before .before .before .before .before .before .before .before .before .before .before .before .before .before .before .args in let told = c .before .before .before .before .before .before .before .before .command8 .given .1 in
+    rw told (λ t e f p. let s = made (c .before .before .before .before .before .before .before .before .before .before) _ told t e f p in c .before .before .before .before .write-by-block .ensures t (z .bytes .now) (s .sees) (s .names refl))
+
+same-length-6 : tie.Need-same-length-6
+same-length-6 c = search needs
+
+same-length-7 : tie.Need-same-length-7
+same-length-7 c = search needs
+
+returns-9 : tie.Need-returns-9
+unfolding subjectOf Answered
+returns-9 c = let z = c .before .before .before .before .before .before .before .before .before .before .before .before .before .before .before .args in let told = c .before .before .before .before .before .before .before .command9 .given .1 in
+    rw told (λ t e f p. let s = made (c .before .before .before .before .before .before .before .before .before) _ told t e f p in
+    left t _ (c .before .before .before .read .result) (c .unchanged .result) (z .store .now) (z .words .now) (z .bytes .now) _ _ _ (c .unchanged .ensures)
+    (c .before .before .before .read .ensures t (z .bytes .now) (s .sees) (sees-read t _ _ (c .before .before .before .before .before .before .before .before .before .sighted .result) (s .sees) (s .names refl))))
+
+same-length-8 : tie.Need-same-length-8
+same-length-8 c = search needs
+
+returns-10 : tie.Need-returns-10
+unfolding subjectOf Answered
+returns-10 c = let z = c .before .before .before .before .before .before .before .before .before .before .before .before .before .before .args in let told = c .before .before .before .before .before .before .command10 .given .1 in
+    rw told (λ t e f p. let s = made (c .before .before .before .before .before .before .before .before) _ told t e f p in
+    left t _ (c .before .before .before .page .result) (c .unchanged2 .result) (z .store .now) (z .words .now) (z .bytes .now) _ _ _ (c .unchanged2 .ensures)
+    (c .before .before .before .page .ensures t (z .store .now) (z .words .now) (s .sees) (s .names refl)))
+
+same-length-9 : tie.Need-same-length-9
+same-length-9 c = search needs
+
+returns-11 : tie.Need-returns-11
+unfolding subjectOf Answered
+returns-11 c = let z = c .before .before .before .before .before .before .before .before .before .before .before .before .before .before .args in let told = c .before .before .before .before .before .before .command11 .given .1 in
+    rw told (λ t e f p. let s = made (c .before .before .before .before .before .before .before .before) _ told t e f p in
+    left t _ (c .before .before .before .list .result) (c .unchanged3 .result) (z .store .now) (z .words .now) (z .bytes .now) _ _ _ (c .unchanged3 .ensures)
+    (c .before .before .before .list .ensures t (z .store .now) (z .words .now) (s .sees) (s .lists refl)))
+
+returns-12 : tie.Need-returns-12
+unfolding subjectOf Answered
+returns-12 c = let z = c .before .before .before .before .before .before .before .before .before .before .args in let told = c .before .before .command12 .given .1 in
+    rw told (λ t e f p. c .pulse .ensures t (z .store .now) (z .words .now) (z .bytes .now) (made (c .before .before .before .before) _ told t e f p .sees))
+
+pub answered-spec : {M : Type 1} → statement M
+answered-spec =
+    tie.close
+    (tie.spec
+    subject-of-requires
+    sighted-requires
+    enum-known-command
+    create-requires
+    enum-known-command-2
+    change-capacity-requires
+    enum-known-command-3
+    delete-requires
+    enum-known-command-4
+    erase-requires
+    enum-known-command-5
+    close-requires
+    enum-known-command-6
+    free-requires
+    enum-known-command-7
+    write-by-placement-requires
+    enum-known-command-8
+    write-by-block-requires
+    enum-known-command-9
+    read-requires
+    unchanged-requires
+    enum-known-command-10
+    page-requires
+    unchanged-requires-2
+    enum-known-command-11
+    list-requires
+    unchanged-requires-3
+    enum-known-command-12
+    pulse-requires
+    returns
+    returns-2
+    returns-3
+    same-length
+    returns-4
+    returns-5
+    returns-6
+    same-length-2
+    same-length-3
+    returns-7
+    same-length-4
+    same-length-5
+    returns-8
+    same-length-6
+    same-length-7
+    returns-9
+    same-length-8
+    returns-10
+    same-length-9
+    returns-11
+    returns-12)

@@ -1,0 +1,37 @@
+-- There are as many blocks as the configuration says, none outside the limits.
+use Prim.Native.Nat.{_≤_}
+use mathlib.Core.Logic.{⊎-elim}
+use mathlib.Core.Path.{_≡_, sym, _∙_}
+use native.Mathlib.Omega.{arith}
+use Rattle.geometry.proofs.Laws.Shape.{by-test, limits}
+use Rattle.geometry.specs.Shape.{withinLimits}
+use Rattle.geometry.specs.declared.shape.Config.{Config}
+use Rattle.tables.specs.Changing.{presentBlocks}
+use borrow.Author.Needs.{needs}
+use Rattle.manager.proofs.subjects.begun.Statement.{statement}
+use Rattle.manager.proofs.subjects.begun.Tie as tie
+
+few-present : (c : Config) → presentBlocks c ≤ 256
+few-present c = by-test (withinLimits c) (λ e. rw e (limits c e .ranges .blocks .most)) (λ e. rw e (omega arith))
+
+within-limits-requires : tie.Need-within-limits-requires
+within-limits-requires c κs = search needs
+
+subject-of-requires : tie.Need-subject-of-requires
+subject-of-requires c κs = search needs
+
+begun-pass-requires : tie.Need-begun-pass-requires
+begun-pass-requires c κs = search needs
+
+returns : tie.Need-returns
+returns c = let z = c .before .before .before .before .args in
+    let inside = c .before .before .before .within-limits .ensures in
+    let count : c .before .before .if1 .blocks ≡ presentBlocks (z .config) = ⊎-elim
+    (λ w. let e = sym inside ∙ w .0 .taken in w .1 ∙ rw e)
+    (λ w. let e = sym inside ∙ w .0 .left in w .1 ∙ rw e)
+    (c .before .before .if1 .came) in
+    (rw (count, c .before .subject-of .ensures, c .begun-pass .ensures), rw count (few-present (z .config)))
+
+pub begun-spec : {M : Type 1} → statement M
+begun-spec =
+    tie.close (tie.spec within-limits-requires subject-of-requires begun-pass-requires returns)

@@ -1,0 +1,149 @@
+// What each command is about, which the pass over the blocks looks for.
+use geometry::Config;
+use geometry::adus_per_block;
+use geometry::within_limits;
+use geometry::word_fields;
+use model::Command;
+use model::Listed;
+use survey::Found;
+use survey::Pass;
+use survey::Subject;
+use tables::Choice;
+use tables::clear_block;
+ghost use Prim.Native.Nat.{_≤_};
+ghost use mathlib.Core.Path.{_≡_};
+ghost use Rattle.manager.specs.Subjects.{beginningOf, listing, named, placed, plain, subjectOf};
+ghost use Rattle.survey.specs.Sight.{begunPass};
+
+// A domain alone, ..
+fn plain(config: Config, domain: u64) -> Subject
+    ensures { λ r. ⌜ r ≡ plain config domain ⌝ }
+{
+    let capacity = adus_per_block(config);
+    Subject {
+        domain,
+        placing: false,
+        number: 0,
+        choosing: false,
+        listing: false,
+        listed: Listed::Open,
+        capacity: capacity.0,
+        period: config.period,
+        rated: config.rated,
+    }
+}
+
+// .. and a block that is named, or may be left to the choice, ..
+fn named(config: Config, domain: u64, number: u64, choosing: bool) -> Subject
+    ensures { λ r. ⌜ r ≡ named config domain number choosing ⌝ }
+{
+    let mut subject = plain(config, domain);
+    subject.number = number;
+    subject.choosing = choosing;
+    subject
+}
+
+// .. or a placement, ..
+fn placed(config: Config, domain: u64, placement: u64) -> Subject
+    ensures { λ r. ⌜ r ≡ placed config domain placement ⌝ }
+{
+    let mut subject = named(config, domain, placement, true);
+    subject.placing = true;
+    subject
+}
+
+// .. or a list.
+fn listing(config: Config, domain: u64, listed: Listed) -> Subject
+    ensures { λ r. ⌜ r ≡ listing config domain listed ⌝ }
+{
+    let capacity = adus_per_block(config);
+    Subject {
+        domain,
+        placing: false,
+        number: 0,
+        choosing: false,
+        listing: true,
+        listed,
+        capacity: capacity.0,
+        period: config.period,
+        rated: config.rated,
+    }
+}
+
+pub(crate) fn subject_of(config: Config, command: Command) -> Subject
+    ensures { λ r. ⌜ r ≡ subjectOf config command ⌝ }
+{
+    match command {
+        Command::Create {
+            domain,
+            guarantee: _,
+            quota: _,
+            placements: _,
+            limit: _,
+        } => plain(config, domain),
+        Command::ChangeCapacity {
+            domain,
+            guarantee: _,
+            quota: _,
+        } => plain(config, domain),
+        Command::Delete { domain } => plain(config, domain),
+        Command::Erase { domain, block } => named(config, domain, block, true),
+        Command::Close { domain, block } => named(config, domain, block, false),
+        Command::Free { domain, block } => named(config, domain, block, false),
+        Command::WriteByPlacement {
+            domain,
+            placement,
+            start: _,
+            count: _,
+        } => placed(config, domain, placement),
+        Command::WriteByBlock {
+            domain,
+            block,
+            start: _,
+            count: _,
+        } => named(config, domain, block, false),
+        Command::Read {
+            domain,
+            address,
+            count: _,
+            expected: _,
+        } => { named(config, domain, word_fields(config, address).block, false) }
+        Command::Page { domain, block } => named(config, domain, block, false),
+        Command::List { domain, listed } => listing(config, domain, listed),
+        Command::Pulse { seconds: _ } => plain(config, 0),
+    }
+}
+
+// What the pass over the blocks begins with: how many blocks the drive has, none outside the limits; what
+// the command is about; and what was found before the first block.
+pub(crate) struct Beginning {
+    pub blocks: usize,
+    pub subject: Subject,
+    pub pass: Pass,
+}
+
+fn begun_pass() -> Pass
+    ensures { λ r. ⌜ r ≡ begunPass ⌝ }
+{
+    Pass {
+        sound: true,
+        found: Found::Nothing,
+        block: clear_block(),
+        first: Choice::Nothing,
+        second: Choice::Nothing,
+    }
+}
+
+pub(crate) fn begun(config: Config, command: Command) -> Beginning
+    ensures { λ r. ⌜ (r ≡ beginningOf config command) × (r .blocks ≤ 256) ⌝ }
+{
+    let mut blocks = 0;
+    if within_limits(config) {
+        blocks = config.blocks as usize;
+    }
+    Beginning {
+        blocks,
+        subject: subject_of(config, command),
+        pass: begun_pass(),
+    }
+}

@@ -1,0 +1,43 @@
+-- What Write by placement is asked, of what is seen of the table.
+use Prim.Native.Nat.{ℕ, _-_}
+use mathlib.Core.Bool.{Bool, true, _&&_}
+use mathlib.Core.List.{List, [], _∷_}
+use lib.Dec.{eqb, leb, ltb}
+use Rattle.geometry.specs.Address.{isDomainId}
+use Rattle.geometry.specs.Questions.{Question, ask}
+use Rattle.geometry.specs.Shape.{storeLength}
+use Rattle.geometry.specs.declared.shape.Adus.{Adus}
+use Rattle.model.specs.declared.table.Domain.{Domain}
+use Rattle.model.specs.declared.table.Table.{Table}
+use Rattle.placements.specs.Placing.{blocksIn, roomSeen}
+use Rattle.rules.specs.Questions.{isCount, userAddressesFit}
+use Rattle.survey.specs.declared.pass.Found.{Found}
+use Rattle.survey.specs.declared.pass.Found.the-variants as found
+use Rattle.survey.specs.declared.sight.Sight.{Sight}
+use Rattle.tables.specs.Verdicts.{newBlocksQuestions}
+
+-- 3 to 7, with so many entries in the store and room for so many words, ..
+unfoldable pub placementArguments : Sight → ℕ → ℕ → ℕ → ℕ → Adus → List Question
+placementArguments x entries room d p count =
+    ask 3 (eqb entries (storeLength (x .config) .0))
+    ∷ ask 4 (isDomainId d)
+    ∷ ask 5 (x .domain .exists)
+    ∷ ask 6 (ltb p (x .domain .placements) && isCount count)
+    ∷ ask 7 (leb (count .0) room)
+    ∷ []
+
+-- A block opens where the placement has none open.
+abbrev pub mayOpenOf : Found → ℕ → Domain → Bool
+mayOpenOf found.Nothing opened d = ltb opened (d .limit)
+mayOpenOf (found.Block n) opened d = true
+
+abbrev pub mayOpenSeen : Sight → Bool
+mayOpenSeen x = mayOpenOf (x .found) (x .opened) (x .domain)
+
+-- .. and 8 to 14, these of the blocks that the write will open.
+unfoldable pub placementState : Table → Sight → ℕ → ℕ → Adus → List Question
+placementState t x d start count =
+    let new = blocksIn (x .config) (count .0 - roomSeen x) in
+    ask 8 (userAddressesFit start (count .0))
+    ∷ ask 11 (mayOpenSeen x)
+    ∷ newBlocksQuestions t d new new
