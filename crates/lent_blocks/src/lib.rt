@@ -2,32 +2,55 @@
 // proved of one record.
 use countdown::count_down;
 use model::Block;
+use model::Domain;
 use survey::Pass;
 use survey::Subject;
+use survey::holder_place;
 use survey::passed;
 use tables::Change;
+use tables::clear_block;
 ghost use Prim.Native.Nat.{_≤_};
 ghost use mathlib.Core.List.{map};
 ghost use mathlib.Core.Path.{_≡_};
-ghost use lib.ListN.{length, set};
+ghost use lib.ListN.{getD, length, set};
 ghost use Rattle.rules.specs.Domains.{freedIfHeld};
+ghost use Rattle.rules.specs.Drive.{clearBlock};
 ghost use Rattle.tables.specs.Changing.{changedBlocks};
 ghost use Rattle.survey.specs.Marks.{markCount};
 ghost use Rattle.survey.specs.Pass.{Walked, passing};
 
 // The pass over the blocks, from the first to the last.
-pub fn pass_over(blocks: &[Block], subject: Subject, begun: Pass, marks: &mut [u32]) -> Pass
-    requires { ⌜ (length (now blocks) ≤ 256) × (length (now marks) ≡ markCount) ⌝ }
-    ensures { λ r. ⌜ Walked subject 0 (now (blocks .entry)) (passing begun (now (marks .entry))) (passing r (now (marks .exit))) ⌝ }
+pub fn pass_over(
+    blocks: &[Block],
+    domains: &[Domain],
+    subject: Subject,
+    begun: Pass,
+    marks: &mut [u32],
+) -> Pass
+    requires { ⌜ (length (now blocks) ≤ 256) × (length (now domains) ≡ 16) × (length (now marks) ≡ markCount) ⌝ }
+    ensures { λ r. ⌜ Walked subject (now (domains .entry)) 0 (now (blocks .entry)) (passing begun (now (marks .entry))) (passing r (now (marks .exit))) ⌝ }
 {
     let mut pass = begun;
     let mut n = 0;
     while n < blocks.len() {
         let block = blocks[n];
-        pass = passed(pass, subject, n, block, marks);
+        let at = holder_place(block);
+        let holder = domains[at];
+        pass = passed(pass, subject, n, block, holder, marks);
         n += 1;
     }
     pass
+}
+
+// A block's record; a number past the last has a clear one.
+pub fn block_at(blocks: &[Block], n: u64) -> Block
+    ensures { λ r. ⌜ r ≡ getD (now (blocks .entry)) n clearBlock ⌝ }
+{
+    if n < blocks.len() as u64 {
+        let at = n as usize;
+        return blocks[at];
+    }
+    clear_block()
 }
 
 // A block's new record; a number past the last changes none.

@@ -34,7 +34,7 @@ descriptorOf n index mark = littleEndian 4 n ++ littleEndian 1 index ++ littleEn
 
 -- What the marks tell of block n for a list: 0, or its mark and 16 times its P/E index.
 abbrev pub codeAt : List ℕ → ℕ → ℕ
-codeAt marks n = mark marks (576 + n) / 131072
+codeAt marks n = mark marks (544 + n) / 131072
 
 -- The descriptors of the blocks below n that are listed, ascending, ..
 unfoldable pub markedTo : List ℕ → ℕ → List ℕ

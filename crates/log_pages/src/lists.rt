@@ -20,7 +20,7 @@ ghost use Rattle.survey.specs.Sight.{Sees, SeesList};
 ghost use Rattle.tables.specs.Serving.{answering, drive, served};
 
 // Of the survey's marks: where those of the blocks begin, and what a descriptor is multiplied by in its block's mark.
-const LINKS: usize = 576;
+const LINKS: usize = 544;
 
 const DESCRIPTOR: u32 = 131072;
 

@@ -1,4 +1,4 @@
--- What each command sees of the table that the pass went over for it.
+-- What each command sees of the table that was viewed for it.
 use Prim.Native.Nat.{ℕ, _<_}
 use mathlib.Core.Bool.{Bool, true, false, cond}
 use mathlib.Core.List.{List}
@@ -15,17 +15,16 @@ use Rattle.model.specs.declared.command.Command.the-variants.{ChangeCapacity, C
 use Rattle.model.specs.declared.command.Command.the-variants.{WriteByBlock, WriteByPlacement}
 use Rattle.model.specs.declared.command.Listed.{Listed}
 use Rattle.model.specs.declared.command.Listed.the-variants as listed
-use Rattle.model.specs.declared.table.Domain.{Domain}
 use Rattle.model.specs.declared.table.Table.{Table}
 use Rattle.rules.specs.Drive.{blockAt, size}
 use Rattle.rules.specs.Effects.{Serves}
 use Rattle.survey.proofs.Outcomes.{left-as-is}
 use Rattle.survey.proofs.Seeing.{sound-limits}
 use Rattle.survey.specs.Marks.{markCount}
-use Rattle.survey.specs.Pass.{Passing}
-use Rattle.survey.specs.Sight.{PassedOver, Sees, SeesBlock, SeesChoice, SeesList, SeesPlacement, Sighted, SubjectOf}
+use Rattle.survey.specs.Sight.{Sees, SeesBlock, SeesChoice, SeesList, SeesPlacement, Sighted, SubjectOf, Views}
 use Rattle.survey.specs.declared.pass.Subject.{Subject}
 use Rattle.survey.specs.declared.sight.Sight.{Sight}
+use Rattle.survey.specs.declared.sight.View.{View}
 use Rattle.tables.specs.Changing.{leaving, outcomeServed}
 use Rattle.tables.specs.Serving.{answering, drive, served}
 use Rattle.tables.specs.declared.change.Outcome.{Outcome}
@@ -64,30 +63,28 @@ pub record Sights (t : Table) (s : Subject) (marks : List ℕ) (r : Sight) : Typ
   pub chooses : s .choosing ≡ true → SeesChoice t r
   pub lists : s .listing ≡ true → SeesList t (s .domain) (s .listed) r marks
 
--- Of every table with this configuration and these domains that the pass went over for the command.
-abbrev pub Sighting : Config → List Domain → Command → Passing → Sight → Type 0
-Sighting c ds k x r = (t : Table) → t .config ≡ c → t .domains ≡ ds → PassedOver t (subjectOf (t .config) k) x
-    → Sights t (subjectOf (t .config) k) (x .marks) r
+-- Of every table that is viewed so.
+abbrev pub Sighting : View → Command → List ℕ → Sight → Type 0
+Sighting v k marks r = (t : Table) → Views t v marks → Sights t (subjectOf (t .config) k) marks r
 
-pub sighting : (c : Config) (ds : List Domain) (command k : Command) (s : Subject) (x : Passing) (r : Sight) → s ≡ subjectOf c command → command ≡ k
-    → ((t : Table) → t .config ≡ c → t .domains ≡ ds → PassedOver t s x → Sighted t s x r) → Sighting c ds k x r
-sighting c ds command k s x r is told made t e f p =
-    let same : s ≡ subjectOf (t .config) k = is ∙ ap (λ (z : Config). subjectOf z command) (sym e) ∙ ap (subjectOf (t .config)) told in
-    let q = subst (λ (z : Subject). Sighted t z x r) same (made t e f (subst (λ (z : Subject). PassedOver t z x) (sym same) p)) in
+pub sighting : (v : View) (command k : Command) (marks : List ℕ) (r : Sight) → Viewed v command marks → command ≡ k
+    → ((t : Table) → Views t v marks → Sighted t (v .subject) marks r) → Sighting v k marks r
+unfolding Viewed
+sighting v command k marks r is told made t p =
+    let same : v .subject ≡ subjectOf (t .config) k = is .0 ∙ ap (λ (z : Config). subjectOf z command) (p .same-config) ∙ ap (subjectOf (t .config)) told in
+    let q = subst (λ (z : Subject). Sighted t z marks r) same (made t p) in
     let a = right-subject t k in
     record { sees = q .sees a; names = q .names a; places = q .places a; chooses = q .chooses a; lists = q .lists a }
 
 -- There is such a table.
-pub seen : (c : Config) (ds : List Domain) (command k : Command) (x : Passing) (r : Sight) → Viewed c ds command x → command ≡ k → Sighting c ds k x r
-    → (t : Table) × Sights t (subjectOf (t .config) k) (x .marks) r
+pub seen : (v : View) (command k : Command) (marks : List ℕ) (r : Sight) → Viewed v command marks → Sighting v k marks r
+    → (t : Table) × Sights t (subjectOf (t .config) k) marks r
 unfolding Viewed
-seen c ds command k x r v told g =
-    let t = v .0 in
-    (t, g t (v .1) (v .2) (subst (λ (z : Command). PassedOver t (subjectOf (t .config) z) x) told (v .3)))
+seen v command k marks r is g = let t = is .1 .0 in (t, g t (is .1 .1))
 
-pub marks-long : (c : Config) (ds : List Domain) (command : Command) (x : Passing) → Viewed c ds command x → length (x .marks) ≡ markCount
+pub marks-long : (v : View) (command : Command) (marks : List ℕ) → Viewed v command marks → length marks ≡ markCount
 unfolding Viewed
-marks-long c ds command x v = v .3 .entries
+marks-long v command marks is = is .1 .1 .passed .entries
 
 -- A Read names the block of its address, which is in the limits of a sound table.
 pub sees-read : (t : Table) (d address : ℕ) (r : Sight) → Sees t d r → SeesBlock t (cond (withinLimits (t .config)) (fieldsOf (t .config) address .block) 0) r

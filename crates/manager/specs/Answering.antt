@@ -1,25 +1,29 @@
--- What a command's answer is made of: what the pass over the blocks found, and what is changed by it.
-use Prim.Native.Nat.{ℕ}
+-- What a command's answer is made of: what was read of the table, and what is changed by it.
+use Prim.Native.Nat.{ℕ, _-_}
+use mathlib.Core.Bool.{cond}
 use mathlib.Core.List.{List}
 use mathlib.Core.Path.{_≡_}
-use Rattle.geometry.specs.declared.shape.Config.{Config}
+use lib.Dec.{eqb}
 use Rattle.manager.specs.Subjects.{subjectOf}
 use Rattle.model.specs.declared.command.Command.{Command}
-use Rattle.model.specs.declared.table.Domain.{Domain}
 use Rattle.model.specs.declared.table.Table.{Table}
 use Rattle.rules.specs.Effects.{Serves}
-use Rattle.survey.specs.Pass.{Passing}
-use Rattle.survey.specs.Sight.{PassedOver}
+use Rattle.survey.specs.Sight.{Views}
+use Rattle.survey.specs.declared.sight.View.{View}
 use Rattle.tables.specs.Changing.{outcomeServed}
 use Rattle.tables.specs.Serving.{drive, served}
+use Rattle.tables.specs.declared.change.Change.{Change}
 use Rattle.tables.specs.declared.change.Outcome.{Outcome}
 
--- Some table with this configuration and these domains is the one that the pass went over for the command.
-unfoldable pub Viewed : Config → List Domain → Command → Passing → Type 0
-Viewed c ds command x = (t : Table) × (t .config ≡ c) × (t .domains ≡ ds) × PassedOver t (subjectOf (t .config) command) x
+-- Some table is viewed so for the command.
+unfoldable pub Viewed : View → Command → List ℕ → Type 0
+Viewed v command marks = (v .subject ≡ subjectOf (v .config) command) × ((t : Table) × Views t v marks)
 
 -- Whatever table it was, the command is served in it.
-unfoldable pub Answered : Config → List Domain → Command → Passing → List ℕ → List ℕ → List ℕ → Outcome → List ℕ → List ℕ → List ℕ → Type 0
-Answered c ds command x store words bytes r store′ words′ bytes′ =
-    (t : Table) → t .config ≡ c → t .domains ≡ ds → PassedOver t (subjectOf (t .config) command) x
-    → Serves (drive t store) command words bytes (served (outcomeServed t r) store′ words′ bytes′)
+unfoldable pub Answered : View → Command → List ℕ → List ℕ → List ℕ → List ℕ → Outcome → List ℕ → List ℕ → List ℕ → Type 0
+Answered v command marks store words bytes r store′ words′ bytes′ =
+    (t : Table) → Views t v marks → Serves (drive t store) command words bytes (served (outcomeServed t r) store′ words′ bytes′)
+
+-- Where a change's domain has its record; 16 is no domain's place.
+abbrev pub changedPlace : Change → ℕ
+changedPlace c = cond (eqb (c .domain) 0) 16 (c .domain - 1)

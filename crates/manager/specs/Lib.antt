@@ -2,3 +2,4 @@
 pub mod Starting
 pub mod Subjects
 pub mod Answering
+pub mod Looking

@@ -1,5 +1,4 @@
 // What a command answers and changes, from what is seen of the table.
-use crate::subjects::subject_of;
 use blocks::close;
 use blocks::erase;
 use blocks::free;
@@ -7,13 +6,11 @@ use domains::change_capacity;
 use domains::create;
 use domains::delete;
 use domains::pulse;
-use geometry::Config;
 use log_pages::list;
 use log_pages::page;
 use model::Command;
-use model::Domain;
 use placements::write_by_placement;
-use survey::Pass;
+use survey::View;
 use survey::sighted;
 use tables::Change;
 use tables::Outcome;
@@ -21,25 +18,21 @@ use tables::unchanged;
 use transfers::read;
 use transfers::write_by_block;
 ghost use mathlib.Core.Path.{_≡_};
-ghost use Rattle.manager.specs.Answering.{Answered, Viewed};
-ghost use Rattle.survey.specs.Pass.{passing};
-ghost use Rattle.tables.specs.Changing.{changedDomains};
+ghost use Rattle.manager.specs.Answering.{Answered, Viewed, changedPlace};
 
-// The command's answer and what it changes, from what the pass found. The store, the words and the bytes are then as after it.
+// The command's answer and what it changes, from what was read of the table. The store, the words and the bytes are then as after it.
 pub(crate) fn answered(
-    config: Config,
-    domains: [Domain; 16],
-    pass: Pass,
+    view: View,
     marks: &[u32],
     command: Command,
     store: &mut [u64],
     words: &mut [u64],
     bytes: &mut [u8],
 ) -> Outcome
-    requires { ⌜ Viewed config domains command (passing pass (now marks)) ⌝ }
-    ensures { λ r. ⌜ Answered config domains command (passing pass (now (marks .entry))) (now (store .entry)) (now (words .entry)) (now (bytes .entry)) r (now (store .exit)) (now (words .exit)) (now (bytes .exit)) ⌝ }
+    requires { ⌜ Viewed view command (now marks) ⌝ }
+    ensures { λ r. ⌜ Answered view command (now (marks .entry)) (now (store .entry)) (now (words .entry)) (now (bytes .entry)) r (now (store .exit)) (now (words .exit)) (now (bytes .exit)) ⌝ }
 {
-    let sight = sighted(config, domains, subject_of(config, command), pass, marks);
+    let sight = sighted(view, marks);
     match command {
         Command::Create {
             domain,
@@ -81,17 +74,10 @@ pub(crate) fn answered(
     }
 }
 
-// The domains' records after a change; domain 0 is none.
-pub(crate) fn changed_domains(domains: [Domain; 16], change: Change) -> [Domain; 16]
-    ensures { λ r. ⌜ r ≡ changedDomains change domains ⌝ }
+// Where a change's domain has its record; a place that no domain has where it changes none.
+pub(crate) fn changed_place(change: Change) -> u64
+    ensures { λ r. ⌜ r ≡ changedPlace change ⌝ }
 {
-    let mut after = domains;
-    let new = change.changed;
-    if 1 <= change.domain {
-        if change.domain <= 16 {
-            let n = (change.domain - 1) as usize;
-            after[n] = new;
-        }
-    }
-    after
+    let domain = change.domain;
+    if domain == 0 { 16 } else { domain - 1 }
 }

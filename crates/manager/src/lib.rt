@@ -4,6 +4,7 @@
 // A command is served in three parts: one pass over the table finds all that it asks for, its own function puts its
 // questions in 01's order and says what changes, and that is put into the table.
 mod answering;
+mod looking;
 mod serving;
 mod starting;
 mod subjects;

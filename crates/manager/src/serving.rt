@@ -1,13 +1,14 @@
 // Serving a command.
 use crate::answering::answered;
-use crate::answering::changed_domains;
+use crate::answering::changed_place;
+use crate::looking::looked;
 use crate::subjects::begun;
 use lent_blocks::change_blocks;
-use lent_blocks::pass_over;
+use lent_domains::put_domain;
 use model::Answer;
 use model::Command;
 use model::Table;
-use survey::prepared;
+use survey::no_marks;
 use tables::Served;
 ghost use mathlib.Core.Path.{_≡_};
 ghost use Rattle.rules.specs.Effects.{Serves};
@@ -25,18 +26,25 @@ pub fn serve_in(
     ensures { λ r. ⌜ Serves (drive (now (table .entry)) (now (store .entry))) command (now (words .entry)) (now (bytes .entry)) (served (answering (now (table .exit)) r) (now (store .exit)) (now (words .exit)) (now (bytes .exit))) ⌝ }
 {
     let config = table.config;
-    let domains = table.domains;
     let begin = begun(config, command);
     let blocks = begin.blocks;
     let subject = begin.subject;
     let first = begin.pass;
-    let mut marks = prepared(domains);
-    let pass = pass_over(&table.blocks[..blocks], subject, first, &mut marks);
-    let outcome = answered(config, domains, pass, &marks, command, store, words, bytes);
+    let mut marks = no_marks();
+    let view = looked(
+        &table.blocks[..blocks],
+        &table.domains,
+        config,
+        subject,
+        first,
+        &mut marks,
+    );
+    let outcome = answered(view, &marks, command, store, words, bytes);
     let change = outcome.change;
     change_blocks(&mut table.blocks[..blocks], change);
-    let after = changed_domains(domains, change);
-    table.domains = after;
+    let place = changed_place(change);
+    let changed = change.changed;
+    put_domain(&mut table.domains, place, changed);
     outcome.answer
 }
 

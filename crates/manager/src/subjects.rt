@@ -5,14 +5,13 @@ use geometry::within_limits;
 use geometry::word_fields;
 use model::Command;
 use model::Listed;
-use survey::Found;
+use survey::Candidate;
 use survey::Pass;
 use survey::Subject;
-use tables::Choice;
-use tables::clear_block;
 ghost use Prim.Native.Nat.{_≤_};
 ghost use mathlib.Core.Path.{_≡_};
 ghost use Rattle.manager.specs.Subjects.{beginningOf, listing, named, placed, plain, subjectOf};
+ghost use Rattle.survey.specs.Pass.{candidate};
 ghost use Rattle.survey.specs.Sight.{begunPass};
 
 // A domain alone, ..
@@ -122,15 +121,23 @@ pub(crate) struct Beginning {
     pub pass: Pass,
 }
 
+fn no_candidate() -> Candidate
+    ensures { λ r. ⌜ r ≡ candidate 256 4294967296 ⌝ }
+{
+    Candidate {
+        number: 256,
+        erases: 4294967296,
+    }
+}
+
 fn begun_pass() -> Pass
     ensures { λ r. ⌜ r ≡ begunPass ⌝ }
 {
     Pass {
-        sound: true,
-        found: Found::Nothing,
-        block: clear_block(),
-        first: Choice::Nothing,
-        second: Choice::Nothing,
+        sound: 1,
+        found: 256,
+        first: no_candidate(),
+        second: no_candidate(),
     }
 }
 

@@ -40,7 +40,7 @@ use Rattle.rules.specs.Questions.{isCount, questions, userAddressesFit}
 use Rattle.rules.specs.Soundness.{sound}
 use Rattle.survey.proofs.Seeing.{limits-seen}
 use Rattle.survey.specs.Sight.{Sees, SeesChoice, SeesPlacement, foundIn}
-use Rattle.survey.specs.declared.pass.Found.the-variants as found
+use Rattle.survey.specs.declared.sight.Found.the-variants as found
 use Rattle.survey.specs.declared.sight.Sight.{Sight}
 use Rattle.tables.proofs.Answering.{accepted-call, sound-verdict}
 use Rattle.tables.specs.Changes.{ErasesKnown, chosen}

@@ -23,8 +23,8 @@ use Rattle.rules.specs.Blocks.{newBlocks, roomIn}
 use Rattle.rules.specs.Drive.{openBlock, openCount}
 use Rattle.rules.specs.Questions.{mayOpenFor, questions}
 use Rattle.survey.specs.Sight.{Sees, SeesPlacement, foundIn}
-use Rattle.survey.specs.declared.pass.Found.{Found}
-use Rattle.survey.specs.declared.pass.Found.the-variants as found
+use Rattle.survey.specs.declared.sight.Found.{Found}
+use Rattle.survey.specs.declared.sight.Found.the-variants as found
 use Rattle.survey.specs.declared.sight.Sight.{Sight}
 use Rattle.tables.specs.Serving.{drive}
 use Rattle.tables.specs.Verdicts.{lending}

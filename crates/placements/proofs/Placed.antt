@@ -34,8 +34,8 @@ use Rattle.rules.specs.Questions.{userAddressesFit}
 use Rattle.survey.proofs.Choices.{chosen-alike}
 use Rattle.survey.proofs.Seeing.{all-present}
 use Rattle.survey.specs.Sight.{SameFree, foundIn}
-use Rattle.survey.specs.declared.pass.Found.{Found}
-use Rattle.survey.specs.declared.pass.Found.the-variants as found
+use Rattle.survey.specs.declared.sight.Found.{Found}
+use Rattle.survey.specs.declared.sight.Found.the-variants as found
 use Rattle.survey.specs.declared.sight.Sight.{Sight}
 use Rattle.tables.specs.Changes.{chosen}
 use Rattle.tables.specs.Changing.{changedBlocks, changedBy, changedDomains, noBlock, presentBlocks}

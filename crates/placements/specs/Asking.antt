@@ -11,8 +11,8 @@ use Rattle.model.specs.declared.table.Domain.{Domain}
 use Rattle.model.specs.declared.table.Table.{Table}
 use Rattle.placements.specs.Placing.{blocksIn, roomSeen}
 use Rattle.rules.specs.Questions.{isCount, userAddressesFit}
-use Rattle.survey.specs.declared.pass.Found.{Found}
-use Rattle.survey.specs.declared.pass.Found.the-variants as found
+use Rattle.survey.specs.declared.sight.Found.{Found}
+use Rattle.survey.specs.declared.sight.Found.the-variants as found
 use Rattle.survey.specs.declared.sight.Sight.{Sight}
 use Rattle.tables.specs.Verdicts.{newBlocksQuestions}
 

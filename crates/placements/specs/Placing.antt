@@ -19,8 +19,8 @@ use Rattle.rules.specs.Drive.{Drive, blockAt, domainAt, isFree, openBlock, size
 use Rattle.placements.specs.declared.placing.Filled.{Filled}
 use Rattle.placements.specs.declared.placing.Onwards.{Onwards}
 use Rattle.survey.specs.Sight.{SameFree, foundIn}
-use Rattle.survey.specs.declared.pass.Found.{Found}
-use Rattle.survey.specs.declared.pass.Found.the-variants as found
+use Rattle.survey.specs.declared.sight.Found.{Found}
+use Rattle.survey.specs.declared.sight.Found.the-variants as found
 use Rattle.survey.specs.declared.sight.Sight.{Sight}
 use Rattle.tables.specs.Changes.{chosen}
 use Rattle.tables.specs.Changing.{noBlock}

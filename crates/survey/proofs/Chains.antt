@@ -1,16 +1,16 @@
 -- That the blocks of a chain are all that have to be compared: a block's serial is new if none of its key's chain has it.
-use Prim.Native.Nat.{ℕ, zero, suc, _+_, _-_, _*_, _/_, _%_, _<_, _≤_}
-use mathlib.Core.Bool.{Bool, true, false, true≢false, not, _&&_, and-assoc, and-comm, and-true, cond}
+use Prim.Native.Nat.{ℕ, zero, suc, _+_, _-_, _/_, _%_, _<_, _≤_}
+use mathlib.Core.Bool.{Bool, true, false, not, _&&_, and-comm, and-true, cond}
 use mathlib.Core.List.{List}
 use mathlib.Core.Path.{_≡_, refl, sym, ap, _∙_}
 use native.Mathlib.Numerals.{add-one}
 use native.Mathlib.Omega.{arith}
-use lib.Dec.{eqb, ltb}
+use lib.Dec.{eqb}
 use borrow.Author.Tests.{eq-eqb, eqb-true, lt-ltb}
 use Rattle.geometry.proofs.Laws.Shape.{both, by-test}
 use Rattle.model.specs.declared.block.Block.{Block}
 use Rattle.model.specs.declared.table.Table.{Table}
-use Rattle.rules.proofs.Counting.{all-next, all-none, all-same, by-eq, each-all}
+use Rattle.rules.proofs.Counting.{all-next, all-none, all-same, by-eq}
 use Rattle.rules.specs.Counting.{allTo, implies}
 use Rattle.rules.specs.Drive.{blockAt, isFree}
 use Rattle.rules.specs.Soundness.{sameHolder, serialsDiffer}
@@ -105,9 +105,9 @@ chain-goes-on t n j same =
 -- What the marks have of the blocks below n that are held: the one before in its chain, its holder and its serial.
 pub record Chain (t : Table) (n : ℕ) (marks : List ℕ) : Type 0 where
   pub before-is : (j : ℕ) → j < n → isFree (blockAt t j) ≡ false
-      → mark marks (576 + j) % 512 ≡ lastTo (sameKey t (serialKey (blockAt t j))) j
-  pub holder-is : (j : ℕ) → j < n → isFree (blockAt t j) ≡ false → mark marks (576 + j) / 512 % 256 ≡ blockAt t j .holder
-  pub serial-is : (j : ℕ) → j < n → isFree (blockAt t j) ≡ false → mark marks (832 + j) ≡ blockAt t j .serial
+      → mark marks (544 + j) % 512 ≡ lastTo (sameKey t (serialKey (blockAt t j))) j
+  pub holder-is : (j : ℕ) → j < n → isFree (blockAt t j) ≡ false → mark marks (544 + j) / 512 % 256 ≡ blockAt t j .holder
+  pub serial-is : (j : ℕ) → j < n → isFree (blockAt t j) ≡ false → mark marks (800 + j) ≡ blockAt t j .serial
 
 -- Two blocks that are held have the same serial where holder and serial are equal.
 held-differ : (b other : Block) → isFree b ≡ false → isFree other ≡ false
@@ -132,11 +132,11 @@ followed t n marks (suc most) at c held l w same = by-eq at 0
     let free = key-not-free (blockAt t j) (keyOf (b .holder) (b .serial)) k open-key in
     let inside : j < n = omega arith in
     let equal : serialKey (blockAt t j) ≡ serialKey b = eqb-true (serialKey (blockAt t j)) (serialKey b) key in
-    let link : mark marks (576 + j) % 512 ≡ lastTo (sameKey t (serialKey b)) j =
+    let link : mark marks (544 + j) % 512 ≡ lastTo (sameKey t (serialKey b)) j =
     c .before-is j inside free ∙ ap (λ (x : ℕ). lastTo (sameKey t x) j) equal in
     let most-j = last-most (sameKey t (serialKey b)) j in
     let back : chainBefore marks at ≡ lastTo (sameKey t (serialKey b)) j =
-    rw (lt-ltb (mark marks (576 + j) % 512) at (omega (arith, link, most-j))) link in
+    rw (lt-ltb (mark marks (544 + j) % 512) at (omega (arith, link, most-j))) link in
     let differs : not (sameInChain marks (b .holder) (b .serial) at) ≡ serialsDiffer b (blockAt t j) =
     rw (held-differ b (blockAt t j) held free, c .holder-is j inside free, c .serial-is j inside free) in
     chain-next marks (b .holder) (b .serial) at (omega arith)

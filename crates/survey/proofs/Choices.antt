@@ -1,11 +1,12 @@
 -- The two Free blocks to be opened next: the choice of the rules, and their choice once the first is no longer Free.
 use Prim.Native.Nat.{ℕ, zero, suc, _+_, _<_}
-use mathlib.Core.Bool.{Bool, true, false, true≢false, _&&_, cond}
+use mathlib.Core.Bool.{Bool, true, false, true≢false, cond}
 use mathlib.Core.Option.{Option, none, some}
 use mathlib.Core.Path.{_≡_, refl, sym, ap, _∙_, subst}
 use native.Mathlib.Numerals.{add-one}
 use native.Mathlib.Omega.{arith}
 use lib.Dec.{ltb}
+use borrow.Author.Tests.{lt-ltb, ltb-false}
 use Rattle.geometry.proofs.Laws.Shape.{by-test}
 use Rattle.model.specs.declared.block.Block.{Block}
 use Rattle.model.specs.declared.block.State.{State}
@@ -16,9 +17,11 @@ use Rattle.rules.proofs.Blocks as rules
 use Rattle.rules.proofs.Counting.{clash}
 use Rattle.rules.specs.Blocks.{better, chosenTo}
 use Rattle.rules.specs.Drive.{blockAt, isFree, isFreeState}
-use Rattle.survey.specs.Pass.{isBetter}
-use Rattle.survey.specs.Sight.{SameFree}
-use Rattle.tables.proofs.Chosen.{Next, chosen-more, next}
+use Rattle.survey.specs.Pass.{candidate, chosenNext}
+use Rattle.survey.specs.Sight.{SameFree, choiceOf}
+use Rattle.survey.specs.declared.pass.Candidate.{Candidate}
+use Rattle.survey.specs.declared.pass.Pass.{Pass}
+use Rattle.tables.proofs.Chosen.{chosen-more, next}
 use Rattle.tables.specs.Changes.{ErasesKnown, betterIn, betterOf, chosen, fewer}
 use Rattle.tables.specs.declared.choice.Choice.{Choice}
 use Rattle.tables.specs.declared.choice.Choice.the-variants.{Block as Chosen, Nothing}
@@ -118,22 +121,44 @@ first-becomes t n c d w e = record {
         there none = false
         there (some n) = true
 
--- One block more, as the pass notices it.
-pub two-next : (t : Table) (n : ℕ) (c d : Choice) → Two t n c d
-    → Two t (n + 1) (betterOf c n (blockAt t n)) (cond (isBetter c (blockAt t n)) c (betterOf d n (blockAt t n)))
-two-next t n Nothing d w = by-test (isFree (blockAt t n))
-    (λ e. let q : betterOf Nothing n (blockAt t n) ≡ Chosen n (blockAt t n .erases) = better-is (blockAt t n .state) Nothing n (blockAt t n) ∙ rw e in
-    rw (e, q) (first-becomes t n Nothing d w q))
-    (λ e. let q : betterOf Nothing n (blockAt t n) ≡ Nothing = better-is (blockAt t n .state) Nothing n (blockAt t n) ∙ rw e in
-    rw (e, q) (first-stays t n Nothing d w q (λ _. e)))
-two-next t n (Chosen m least) d w = by-test (isFree (blockAt t n))
-    (λ e. by-test (ltb (blockAt t n .erases) least)
-    (λ l. let q : betterOf (Chosen m least) n (blockAt t n) ≡ Chosen n (blockAt t n .erases) = better-is (blockAt t n .state) (Chosen m least) n (blockAt t n) ∙ rw (e, l) in
-    rw (e, l, q) (first-becomes t n (Chosen m least) d w q))
-    (λ l. let q : betterOf (Chosen m least) n (blockAt t n) ≡ Chosen m least = better-is (blockAt t n .state) (Chosen m least) n (blockAt t n) ∙ rw (e, l) in
-    rw (e, l, q) (first-stays t n (Chosen m least) d w q (λ is. absurd (some-none m is)))))
-    (λ e. let q : betterOf (Chosen m least) n (blockAt t n) ≡ Chosen m least = better-is (blockAt t n .state) (Chosen m least) n (blockAt t n) ∙ rw e in
-    rw (e, q) (first-stays t n (Chosen m least) d w q (λ is. absurd (some-none m is))))
+-- ---- The candidates
+
+-- What a candidate becomes with one Free block more, ..
+candidate-next : (c : Candidate) (n e : ℕ) → e < 4294967296 → choiceOf (cond (ltb e (c .erases)) (candidate n e) c) ≡ fewer (choiceOf c) n e
+candidate-next c n e few = by-test (ltb (c .erases) 4294967296)
+    (λ l. by-test (ltb e (c .erases))
+    (λ m. rw (l, m, lt-ltb e 4294967296 few))
+    (λ m. rw (m, l, m)))
+    (λ l. rw (l, lt-ltb e (c .erases) (omega (arith, few, ltb-false (c .erases) 4294967296 l)), lt-ltb e 4294967296 few))
+
+-- .. and that one with more erases than a Free block is a block.
+candidate-known : (c : Candidate) (e : ℕ) → e < 4294967296 → ltb e (c .erases) ≡ false → choiceOf c ≡ Chosen (c .number) (c .erases)
+candidate-known c e few l = rw (lt-ltb (c .erases) 4294967296 (omega (arith, few, ltb-false e (c .erases) l)))
+
+free-better : (t : Table) (n : ℕ) (c : Choice) → isFree (blockAt t n) ≡ true → betterOf c n (blockAt t n) ≡ fewer c n (blockAt t n .erases)
+free-better t n c e = better-is (blockAt t n .state) c n (blockAt t n) ∙ rw e
+
+held-better : (t : Table) (n : ℕ) (c : Choice) → isFree (blockAt t n) ≡ false → betterOf c n (blockAt t n) ≡ c
+held-better t n c e = better-is (blockAt t n .state) c n (blockAt t n) ∙ rw e
+
+-- A Free block more, ..
+pub two-free : (t : Table) (n : ℕ) (p : Pass) → isFree (blockAt t n) ≡ true → blockAt t n .erases < 4294967296 → Two t n (choiceOf (p .first)) (choiceOf (p .second))
+    → Two t (n + 1) (choiceOf (chosenNext p n (blockAt t n .erases) .first)) (choiceOf (chosenNext p n (blockAt t n .erases) .second))
+two-free t n p e few w =
+    let erases = blockAt t n .erases in
+    by-test (ltb erases (p .first .erases))
+    (λ l.
+    let new : choiceOf (candidate n erases) ≡ Chosen n erases = rw (lt-ltb erases 4294967296 few) in
+    let q : betterOf (choiceOf (p .first)) n (blockAt t n) ≡ Chosen n erases =
+    free-better t n (choiceOf (p .first)) e ∙ sym (candidate-next (p .first) n erases few) ∙ rw l new in
+    rw (l, new) (first-becomes t n (choiceOf (p .first)) (choiceOf (p .second)) w q))
+    (λ l.
+    let q : betterOf (choiceOf (p .first)) n (blockAt t n) ≡ choiceOf (p .first) =
+    free-better t n (choiceOf (p .first)) e ∙ sym (candidate-next (p .first) n erases few) ∙ rw l in
+    let there : chosen (choiceOf (p .first)) ≡ some (p .first .number) = ap chosen (candidate-known (p .first) erases few l) in
+    let r : betterOf (choiceOf (p .second)) n (blockAt t n) ≡ choiceOf (cond (ltb erases (p .second .erases)) (candidate n erases) (p .second)) =
+    free-better t n (choiceOf (p .second)) e ∙ sym (candidate-next (p .second) n erases few) in
+    rw (l, sym r) (first-stays t n (choiceOf (p .first)) (choiceOf (p .second)) w q (λ is. absurd (some-none (p .first .number) (sym there ∙ is)))))
   where
     some-none : (a : ℕ) → some a ≡ none → ⊥
     some-none a e = true≢false (ap (λ (o : Option ℕ). there o) e)
@@ -141,3 +166,7 @@ two-next t n (Chosen m least) d w = by-test (isFree (blockAt t n))
         there : Option ℕ → Bool
         there none = false
         there (some n) = true
+
+-- .. and one that is not.
+pub two-held : (t : Table) (n : ℕ) (c d : Choice) → isFree (blockAt t n) ≡ false → Two t n c d → Two t (n + 1) c d
+two-held t n c d e w = subst (λ (x : Choice). Two t (n + 1) c x) (held-better t n d e) (first-stays t n c d w (held-better t n c e) (λ _. e))

@@ -9,3 +9,4 @@ pub mod Choices
 pub mod Surveying
 pub mod Passing
 pub mod Sighting
+pub mod Covering

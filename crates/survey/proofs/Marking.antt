@@ -1,6 +1,6 @@
 -- The laws of the marks: one of them set, and a chain of blocks followed.
 use Prim.Native.Nat.{ℕ, zero, suc, _+_, _-_, _*_, _<_, _≤_, _%_}
-use mathlib.Core.Bool.{Bool, true, false, not, _&&_, cond}
+use mathlib.Core.Bool.{Bool, true, false, not, _&&_}
 use mathlib.Core.List.{List}
 use mathlib.Core.Path.{_≡_, refl, sym, ap, _∙_}
 use native.Mathlib.Omega.{arith}
@@ -22,8 +22,8 @@ other-mark m i j v ne = getD-set-other m i j v 0 ne
 -- A block's chain leads to smaller numbers.
 pub chain-falls : (m : List ℕ) (at : ℕ) → 0 < at → chainBefore m at < at
 chain-falls m at l =
-    by-test (ltb (mark m (576 + (at - 1)) % 512) at)
-    (λ e. rw e (ltb-true (mark m (576 + (at - 1)) % 512) at e))
+    by-test (ltb (mark m (544 + (at - 1)) % 512) at)
+    (λ e. rw e (ltb-true (mark m (544 + (at - 1)) % 512) at e))
     (λ e. rw e l)
 
 -- So it does not matter how many steps are allowed, if they are enough.
@@ -54,13 +54,13 @@ chain-ends m h s = refl
 
 -- ---- What the functions leave
 
-pub slot-taken : (m : List ℕ) (slot : ℕ) (new : Bool) → ¬ (slot ≡ 256) → 64 + slot < length m → new ≡ eqb (mark m (64 + slot)) 0
-    → SlotTaken slot new m (set m (64 + slot) 1)
+pub slot-taken : (m : List ℕ) (slot : ℕ) (new : Bool) → ¬ (slot ≡ 256) → 32 + slot < length m → new ≡ eqb (mark m (32 + slot)) 0
+    → SlotTaken slot new m (set m (32 + slot) 1)
 slot-taken m slot new ne l e = record {
-  entries = length-set m (64 + slot) 1;
+  entries = length-set m (32 + slot) 1;
   first = rw (ne-eqb slot 256 ne) e;
-  now-taken = λ _. set-mark m (64 + slot) 1 l;
-  others = λ j other. other-mark m (64 + slot) j 1 other;
+  now-taken = λ _. set-mark m (32 + slot) 1 l;
+  others = λ j other. other-mark m (32 + slot) j 1 other;
   none = λ is. absurd (ne is);
 }
 
@@ -86,19 +86,19 @@ counted-open m n a b l long e f = record {
 pub linked : (m : List ℕ) (n key holder serial descriptor : ℕ) (differs : Bool) → n < 256 → key < 256 → length m ≡ markCount
     → differs ≡ chainDiffers m holder serial (chainFrom m key)
     → Linked n key holder serial descriptor differs m
-    (set (set (set m (320 + key) (n + 1)) (576 + n) (mark m (320 + key) % 512 + 512 * holder + 131072 * descriptor)) (832 + n) serial)
+    (set (set (set m (288 + key) (n + 1)) (544 + n) (mark m (288 + key) % 512 + 512 * holder + 131072 * descriptor)) (800 + n) serial)
 linked m n key holder serial descriptor differs l k long e =
-    let w = mark m (320 + key) % 512 + 512 * holder + 131072 * descriptor in
-    let m1 = set m (320 + key) (n + 1) in
-    let m2 = set m1 (576 + n) w in
-    let long1 : length m1 ≡ markCount = length-set m (320 + key) (n + 1) ∙ long in
-    let long2 : length m2 ≡ markCount = length-set m1 (576 + n) w ∙ long1 in
+    let w = mark m (288 + key) % 512 + 512 * holder + 131072 * descriptor in
+    let m1 = set m (288 + key) (n + 1) in
+    let m2 = set m1 (544 + n) w in
+    let long1 : length m1 ≡ markCount = length-set m (288 + key) (n + 1) ∙ long in
+    let long2 : length m2 ≡ markCount = length-set m1 (544 + n) w ∙ long1 in
     record {
-      entries = length-set m2 (832 + n) serial ∙ (long2 ∙ sym long);
+      entries = length-set m2 (800 + n) serial ∙ (long2 ∙ sym long);
       compared = e;
-      end = other-mark m2 (832 + n) (320 + key) serial (λ p. omega (arith, p)) ∙ other-mark m1 (576 + n) (320 + key) w (λ p. omega (arith, p))
-          ∙ set-mark m (320 + key) (n + 1) (omega (arith, long));
-      link = other-mark m2 (832 + n) (576 + n) serial (λ p. omega (arith, p)) ∙ set-mark m1 (576 + n) w (omega (arith, long1));
-      serial-mark = set-mark m2 (832 + n) serial (omega (arith, long2));
-      others = λ j a b c. other-mark m2 (832 + n) j serial c ∙ other-mark m1 (576 + n) j w b ∙ other-mark m (320 + key) j (n + 1) a;
+      end = other-mark m2 (800 + n) (288 + key) serial (λ p. omega (arith, p)) ∙ other-mark m1 (544 + n) (288 + key) w (λ p. omega (arith, p))
+          ∙ set-mark m (288 + key) (n + 1) (omega (arith, long));
+      link = other-mark m2 (800 + n) (544 + n) serial (λ p. omega (arith, p)) ∙ set-mark m1 (544 + n) w (omega (arith, long1));
+      serial-mark = set-mark m2 (800 + n) serial (omega (arith, long2));
+      others = λ j a b c. other-mark m2 (800 + n) j serial c ∙ other-mark m1 (544 + n) j w b ∙ other-mark m (288 + key) j (n + 1) a;
     }

@@ -1,10 +1,9 @@
 -- What follows from what is seen of a table: that it is within the limits, and what a change leaves of it.
 use Prim.Native.Nat.{ℕ, zero, suc, _<_, _≤_}
-use mathlib.Core.Bool.{Bool, true, false, cond}
-use mathlib.Core.List.{List, [], _∷_, _++_, map}
+use mathlib.Core.Bool.{true}
+use mathlib.Core.List.{List, [], _∷_, _++_}
 use mathlib.Core.Path.{_≡_, refl, sym, ap, _∙_}
 use native.Mathlib.Omega.{arith}
-use lib.Dec.{eqb}
 use lib.ListN.{drop, length, length-set, length-take, set, take, take-append-drop}
 use lib.Seq.{set-out}
 use borrow.Author.Tests.{leb-true, ne-eqb}
@@ -12,19 +11,18 @@ use Rattle.geometry.proofs.Laws.Shape.{by-test, limits}
 use Rattle.geometry.specs.Address.{isDomainId}
 use Rattle.geometry.specs.Shape.{withinLimits}
 use Rattle.geometry.specs.declared.shape.Config.{Config}
-use Rattle.model.specs.Blocks.{countedDown}
 use Rattle.model.specs.declared.block.Block.{Block}
 use Rattle.model.specs.declared.table.Domain.{Domain}
 use Rattle.model.specs.declared.table.Table.{Table}
 use Rattle.rules.proofs.Counting.{count-most}
 use Rattle.rules.proofs.Soundness.{apart}
 use Rattle.rules.specs.Blocks.{pulsed}
-use Rattle.rules.specs.Domains.{coverage, deletedDomain, freedIfHeld, reservedBy}
-use Rattle.rules.specs.Drive.{blockAt, clearBlock, heldBy, heldCount, size, withBlock, withDomain, withEachBlock}
+use Rattle.rules.specs.Domains.{coverage, deletedDomain, reservedBy}
+use Rattle.rules.specs.Drive.{blockAt, clearBlock, heldBy, heldCount, size, withBlock, withDomain}
 use Rattle.rules.specs.Soundness.{sound}
-use Rattle.survey.specs.Sight.{Seen, Sees}
+use Rattle.survey.specs.Sight.{Sees}
 use Rattle.survey.specs.declared.sight.Sight.{Sight}
-use Rattle.tables.specs.Changing.{blockChange, changedBlocks, changedBy, changedDomains, deletionOf, domainChange, noBlock, noChange, openingChange, presentBlocks, pulseChange, putBlocks}
+use Rattle.tables.specs.Changing.{blockChange, changedBlocks, changedBy, changedDomains, deletionOf, domainChange, noBlock, noChange, openingChange, presentBlocks, pulseChange}
 
 -- ---- Limits
 

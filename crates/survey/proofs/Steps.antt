@@ -1,11 +1,11 @@
 -- What the marks have of the blocks that the pass has gone over, while all of them were sound, and that a step keeps it.
-use Prim.Native.Nat.{ℕ, suc, _+_, _-_, _*_, _/_, _%_, _<_, _≤_}
-use mathlib.Core.Bool.{Bool, true, false, true≢false, not, _&&_, _||_, and-true, cond}
+use Prim.Native.Nat.{ℕ, _+_, _-_, _*_, _/_, _%_, _<_, _≤_}
+use mathlib.Core.Bool.{Bool, true, false, true≢false, not, _&&_, and-true, cond}
 use mathlib.Core.List.{List}
 use mathlib.Core.Path.{_≡_, refl, sym, ap, _∙_}
 use native.Mathlib.Omega.{arith}
 use lib.Dec.{eqb, leb, ltb}
-use lib.ListN.{getD, length}
+use lib.ListN.{length}
 use borrow.Author.Tests.{eq-eqb, eqb-true, le-leb, lt-ltb, ltb-true, ne-eqb}
 use Rattle.geometry.proofs.Laws.Shape.{both, by-test, is-between}
 use Rattle.geometry.specs.Address.{isDomainId}
@@ -18,12 +18,12 @@ use Rattle.model.specs.declared.table.Domain.{Domain}
 use Rattle.model.specs.declared.table.Table.{Table}
 use Rattle.rules.proofs.Counting.{all-next, by-eq, count-most, each-all, sum-next}
 use Rattle.rules.specs.Counting.{allTo, countTo}
-use Rattle.rules.specs.Drive.{blockAt, clearDomain, heldBy, isFree, isFreeState, isOpen, isOpenState, openOf}
+use Rattle.rules.specs.Drive.{blockAt, heldBy, isFree, isFreeState, isOpen, openOf}
 use Rattle.rules.specs.Soundness.{serialsDiffer, wayBelow}
 use Rattle.survey.proofs.Chains.{Chain, chain-tells, key-held, last-most, last-next}
-use Rattle.survey.specs.Clauses.{blockSound, blockSoundIn, blocksSound, holderRecord, keyOf, lastTo, placementSlot, sameKey, serialKey, serialNew, slot, slotFor, slotIn, slotNew}
-use Rattle.survey.specs.Marks.{Counted, Linked, SlotTaken, chainDiffers, chainFrom, domainTold, holderIn, mark, markCount}
-use Rattle.survey.specs.Pass.{BlockTested, Remembered, descriptorCode, isClear, isSoundIn}
+use Rattle.survey.specs.Clauses.{blockSound, blockSoundIn, holderRecord, keyOf, lastTo, placementSlot, sameKey, serialKey, serialNew, slot, slotFor, slotIn, slotNew}
+use Rattle.survey.specs.Marks.{chainDiffers, chainFrom, mark}
+use Rattle.survey.specs.Pass.{HeldTested, Remembered, descriptorCode, isClear, isSoundIn}
 use Rattle.survey.specs.declared.pass.Subject.{Subject}
 
 -- The subject has what the tests need of the table's configuration.
@@ -35,47 +35,29 @@ pub record About (t : Table) (s : Subject) : Type 0 where
 pub record Marked (t : Table) (n : ℕ) (s : Subject) (m : List ℕ) : Type 0 where
   pub held-count : (k : ℕ) → k < 16 → mark m k ≡ countTo (λ i. heldBy (k + 1) (blockAt t i)) n
   pub open-count : (k : ℕ) → k < 16 → mark m (16 + k) ≡ countTo (λ i. openOf (k + 1) (blockAt t i)) n
-  pub serials : (k : ℕ) → k < 16 → mark m (32 + k) ≡ getD (t .domains) k clearDomain .last
-  pub placements : (k : ℕ) → k < 16 → mark m (48 + k) ≡ getD (t .domains) k clearDomain .placements
-  pub existing : (k : ℕ) → k < 16 → mark m (1088 + k) ≡ cond (getD (t .domains) k clearDomain .exists) 1 0
-  pub taken : (x : ℕ) → x < 256 → mark m (64 + x) ≡ cond (allTo (λ i. not (eqb (placementSlot (blockAt t i)) x)) n) 0 1
-  pub ends : (k : ℕ) → k < 256 → mark m (320 + k) ≡ lastTo (sameKey t k) n
+  pub taken : (x : ℕ) → x < 256 → mark m (32 + x) ≡ cond (allTo (λ i. not (eqb (placementSlot (blockAt t i)) x)) n) 0 1
+  pub ends : (k : ℕ) → k < 256 → mark m (288 + k) ≡ lastTo (sameKey t k) n
   pub links : (j : ℕ) → j < n → isFree (blockAt t j) ≡ false
-      → mark m (576 + j)
+      → mark m (544 + j)
       ≡ lastTo (sameKey t (serialKey (blockAt t j))) j + 512 * blockAt t j .holder + 131072 * descriptorCode s (blockAt t j)
-  pub block-serials : (j : ℕ) → j < n → isFree (blockAt t j) ≡ false → mark m (832 + j) ≡ blockAt t j .serial
+  pub block-serials : (j : ℕ) → j < n → isFree (blockAt t j) ≡ false → mark m (800 + j) ≡ blockAt t j .serial
   pub holders : (j : ℕ) → j < n → isFree (blockAt t j) ≡ false → isDomainId (blockAt t j .holder) ≡ true
-  pub unlinked : (j : ℕ) → j < n → isFree (blockAt t j) ≡ true → mark m (576 + j) ≡ 0
-  pub unreached : (j : ℕ) → n ≤ j → j < 256 → mark m (576 + j) ≡ 0
+  pub unlinked : (j : ℕ) → j < n → isFree (blockAt t j) ≡ true → mark m (544 + j) ≡ 0
+  pub unreached : (j : ℕ) → n ≤ j → j < 256 → mark m (544 + j) ≡ 0
 
--- ---- What is told of a block's holder
-
-told-same : (b : Bool) → not (eqb (cond b 1 0) 0) ≡ b
-told-same true = refl
-told-same false = refl
+-- ---- A block's holder
 
 slot-few : (h : ℕ) → slot h < 16
 slot-few h = by-test (isDomainId h)
     (λ e. let l = is-between 1 16 h e in rw e (omega (arith, l .least, l .most)))
     (λ e. rw e (omega arith))
 
--- The clauses of a block ask no more of it.
-same-holder : (x : State) (period c : ℕ) (r : Domain) (b : Block)
-    → blockSoundIn x period c (domainTold (r .exists) (r .placements) (r .last)) b ≡ blockSoundIn x period c r b
-same-holder Free period c r b = refl
-same-holder (Open way) period c r b = refl
-same-holder (Closed way) period c r b = refl
-
--- The marks tell what the tests need of it.
-pub sound-in : (t : Table) (n : ℕ) (s : Subject) (m : List ℕ) → About t s → Marked t n s m
-    → isSoundIn s (blockAt t n) m
+-- The tests are those of the clauses, with what the subject has of the configuration.
+sound-in : (t : Table) (n : ℕ) (s : Subject) → About t s
+    → isSoundIn s (blockAt t n) (holderRecord t (blockAt t n))
     ≡ blockSound (t .config .period) (adusPerBlock (t .config) .0) (holderRecord t (blockAt t n)) (blockAt t n)
 unfolding blockSound
-sound-in t n s m a w =
-    let k = slot (blockAt t n .holder) in
-    let l = slot-few (blockAt t n .holder) in
-    rw (a .same-period, a .same-capacity, w .existing k l, w .placements k l, w .serials k l, told-same (getD (t .domains) k clearDomain .exists))
-    (same-holder (blockAt t n .state) (t .config .period) (adusPerBlock (t .config) .0) (holderRecord t (blockAt t n)) (blockAt t n))
+sound-in t n s a = rw (a .same-period, a .same-capacity)
 
 -- ---- A Free block
 
@@ -93,11 +75,6 @@ free-slot (Closed way) h e = absurd (true≢false (sym e))
 free-key : (b : Block) → isFree b ≡ true → serialKey b ≡ 256
 unfolding serialKey
 free-key b e = rw e
-
-free-open : (x : State) → isFreeState x ≡ true → isOpenState x ≡ false
-free-open Free e = refl
-free-open (Open way) e = absurd (true≢false (sym e))
-free-open (Closed way) e = absurd (true≢false (sym e))
 
 -- So it is tested by being clear alone, ..
 free-tested : (t : Table) (n : ℕ) → isFree (blockAt t n) ≡ true → (slotNew t n ≡ true) × (serialNew t n ≡ true)
@@ -125,9 +102,6 @@ free-marked t n s m small e clear w =
     record {
       held-count = λ k l. rw (sum-next, unheld k) (w .held-count k l ∙ omega arith);
       open-count = λ k l. rw (sum-next, unheld k) (w .open-count k l ∙ omega arith);
-      serials = w .serials;
-      placements = w .placements;
-      existing = w .existing;
       taken = λ x l. rw (all-next, free-slot (b .state) (b .holder) e, ne-eqb 256 x (λ p. omega (arith, p, l)), and-true) (w .taken x l);
       ends = λ k l. rw (last-next, free-key b e, ne-eqb 256 k (λ p. omega (arith, p, l))) (w .ends k l);
       links = λ j l f. by-eq j n (λ p. absurd (true≢false (sym e ∙ ap (λ (i : ℕ). isFree (blockAt t i)) (sym p) ∙ f))) (λ p. w .links j (omega arith) f);
@@ -207,26 +181,15 @@ module _ {t : Table} {n : ℕ} {s : Subject} {ok : Bool} {m after : List ℕ} (k
   number = let l = is-between 1 16 (b .holder) (k .id) in rw (k .id) (omega (arith, l .least))
 
   -- Taking a slot touches no other mark, and none where there is no slot.
-  slot-alone : (j : ℕ) → (x < 256 → ¬ (j ≡ 64 + x)) → mark (r .placed) j ≡ mark (r .counted) j
+  slot-alone : (j : ℕ) → (x < 256 → ¬ (j ≡ 32 + x)) → mark (r .placed) j ≡ mark (r .counted) j
   slot-alone j c = by-eq x 256
       (λ p. ap (λ (ms : List ℕ). mark ms j) (r .takes .none p))
       (λ p. r .takes .others j (c (omega (arith, slot-most b))))
 
   -- The marks that are not touched.
-  untouched : (j : ℕ) → ¬ (j ≡ h) → ¬ (j ≡ 16 + h) → (x < 256 → ¬ (j ≡ 64 + x)) → ¬ (j ≡ 320 + key) → ¬ (j ≡ 576 + n) → ¬ (j ≡ 832 + n)
+  untouched : (j : ℕ) → ¬ (j ≡ h) → ¬ (j ≡ 16 + h) → (x < 256 → ¬ (j ≡ 32 + x)) → ¬ (j ≡ 288 + key) → ¬ (j ≡ 544 + n) → ¬ (j ≡ 800 + n)
       → mark after j ≡ mark m j
   untouched j a b c d e f = r .links .others j d e f ∙ slot-alone j c ∙ r .counts .others j a b
-
-  -- .. among them those of the domains.
-  of-domains : (j : ℕ) → 32 ≤ j → j < 64 → mark after j ≡ mark m j
-  of-domains j l u = untouched j (λ p. omega (arith, p, few, l)) (λ p. omega (arith, p, few, l)) (λ y p. omega (arith, p, u)) (λ p. omega (arith, p, u))
-      (λ p. omega (arith, p, u)) (λ p. omega (arith, p, u))
-
-  last-ones : (j : ℕ) → 1088 ≤ j → mark after j ≡ mark m j
-  last-ones j l =
-      let key-few : key < 256 = omega arith in
-      untouched j (λ p. omega (arith, p, few, l)) (λ p. omega (arith, p, few, l)) (λ y p. omega (arith, p, y, l))
-      (λ p. omega (arith, p, key-few, l)) (λ p. omega (arith, p, k .small, l)) (λ p. omega (arith, p, k .small, l))
 
   -- A count below 2^32 with one more.
   one-more : (c : ℕ) → c ≤ n → (c + 1) % 4294967296 ≡ c + 1
@@ -258,14 +221,14 @@ module _ {t : Table} {n : ℕ} {s : Subject} {ok : Bool} {m after : List ℕ} (k
       (λ q. omega (arith, q, l))
       ∙ w .open-count i l ∙ omega arith)))
 
-  taken-more : (y : ℕ) → y < 256 → mark after (64 + y) ≡ cond (allTo (λ i. not (eqb (placementSlot (blockAt t i)) y)) (n + 1)) 0 1
+  taken-more : (y : ℕ) → y < 256 → mark after (32 + y) ≡ cond (allTo (λ i. not (eqb (placementSlot (blockAt t i)) y)) (n + 1)) 0 1
   taken-more y l =
-      let links = r .links .others (64 + y) (λ q. omega (arith, q, l)) (λ q. omega (arith, q, l)) (λ q. omega (arith, q, l)) in
+      let links = r .links .others (32 + y) (λ q. omega (arith, q, l)) (λ q. omega (arith, q, l)) (λ q. omega (arith, q, l)) in
       rw all-next (by-eq y x
-      (λ p. links ∙ ap (mark (r .placed)) (ap (λ (z : ℕ). 64 + z) p) ∙ r .takes .now-taken (λ q. omega (arith, q, p, l))
+      (λ p. links ∙ ap (mark (r .placed)) (ap (λ (z : ℕ). 32 + z) p) ∙ r .takes .now-taken (λ q. omega (arith, q, p, l))
       ∙ rw (eq-eqb x y (sym p)) (sym (taken-now (allTo (λ i. not (eqb (placementSlot (blockAt t i)) y)) n))))
-      (λ p. links ∙ slot-alone (64 + y) (λ z q. p (omega (arith, q)))
-      ∙ r .counts .others (64 + y) (λ q. omega (arith, q, few)) (λ q. omega (arith, q, few))
+      (λ p. links ∙ slot-alone (32 + y) (λ z q. p (omega (arith, q)))
+      ∙ r .counts .others (32 + y) (λ q. omega (arith, q, few)) (λ q. omega (arith, q, few))
       ∙ w .taken y l ∙ rw (ne-eqb x y (λ q. p (sym q)), and-true)))
     where
       taken-now : (c : Bool) → _≡_ {A = ℕ} (cond (c && false) 0 1) 1
@@ -273,33 +236,33 @@ module _ {t : Table} {n : ℕ} {s : Subject} {ok : Bool} {m after : List ℕ} (k
       taken-now false = refl
 
   -- The key's end before this block.
-  end-before : mark (r .placed) (320 + key) ≡ lastTo (sameKey t (serialKey b)) n
+  end-before : mark (r .placed) (288 + key) ≡ lastTo (sameKey t (serialKey b)) n
   end-before =
       let key-few : key < 256 = omega arith in
-      slot-alone (320 + key) (λ y q. omega (arith, q, y))
-      ∙ r .counts .others (320 + key) (λ q. omega (arith, q, few)) (λ q. omega (arith, q, few))
+      slot-alone (288 + key) (λ y q. omega (arith, q, y))
+      ∙ r .counts .others (288 + key) (λ q. omega (arith, q, few)) (λ q. omega (arith, q, few))
       ∙ w .ends key key-few ∙ ap (λ (z : ℕ). lastTo (sameKey t z) n) (sym (key-held b (k .not-free)))
 
-  ends-more : (i : ℕ) → i < 256 → mark after (320 + i) ≡ lastTo (sameKey t i) (n + 1)
+  ends-more : (i : ℕ) → i < 256 → mark after (288 + i) ≡ lastTo (sameKey t i) (n + 1)
   ends-more i l =
       rw (last-next, key-held b (k .not-free)) (by-eq i key
-      (λ p. rw (eq-eqb key i (sym p)) (ap (λ (z : ℕ). mark after (320 + z)) p ∙ r .links .end))
+      (λ p. rw (eq-eqb key i (sym p)) (ap (λ (z : ℕ). mark after (288 + z)) p ∙ r .links .end))
       (λ p. rw (ne-eqb key i (λ q. p (sym q))) (
-      untouched (320 + i) (λ q. omega (arith, q, few)) (λ q. omega (arith, q, few)) (λ y q. omega (arith, q, y)) (λ q. p (omega (arith, q)))
+      untouched (288 + i) (λ q. omega (arith, q, few)) (λ q. omega (arith, q, few)) (λ y q. omega (arith, q, y)) (λ q. p (omega (arith, q)))
       (λ q. omega (arith, q, l)) (λ q. omega (arith, q, l))
       ∙ w .ends i l)))
 
   -- The links and serials of the blocks before.
-  link-kept : (j : ℕ) → j < 256 → ¬ (j ≡ n) → mark after (576 + j) ≡ mark m (576 + j)
+  link-kept : (j : ℕ) → j < 256 → ¬ (j ≡ n) → mark after (544 + j) ≡ mark m (544 + j)
   link-kept j l ne =
       let key-few : key < 256 = omega arith in
-      untouched (576 + j) (λ q. omega (arith, q, few)) (λ q. omega (arith, q, few)) (λ y q. omega (arith, q, y)) (λ q. omega (arith, q, key-few))
+      untouched (544 + j) (λ q. omega (arith, q, few)) (λ q. omega (arith, q, few)) (λ y q. omega (arith, q, y)) (λ q. omega (arith, q, key-few))
       (λ q. ne (omega (arith, q))) (λ q. omega (arith, q, l))
 
-  serial-kept : (j : ℕ) → ¬ (j ≡ n) → mark after (832 + j) ≡ mark m (832 + j)
+  serial-kept : (j : ℕ) → ¬ (j ≡ n) → mark after (800 + j) ≡ mark m (800 + j)
   serial-kept j ne =
       let key-few : key < 256 = omega arith in
-      untouched (832 + j) (λ q. omega (arith, q, few)) (λ q. omega (arith, q, few)) (λ y q. omega (arith, q, y)) (λ q. omega (arith, q, key-few))
+      untouched (800 + j) (λ q. omega (arith, q, few)) (λ q. omega (arith, q, few)) (λ y q. omega (arith, q, y)) (λ q. omega (arith, q, key-few))
       (λ q. omega (arith, q, k .small)) (λ q. ne (omega (arith, q)))
 
   small-end : lastTo (sameKey t (serialKey b)) n < 512
@@ -310,9 +273,6 @@ module _ {t : Table} {n : ℕ} {s : Subject} {ok : Bool} {m after : List ℕ} (k
   held-marked = record {
     held-count = held-more;
     open-count = open-more;
-    serials = λ i l. of-domains (32 + i) (omega arith) (omega (arith, l)) ∙ w .serials i l;
-    placements = λ i l. of-domains (48 + i) (omega arith) (omega (arith, l)) ∙ w .placements i l;
-    existing = λ i l. last-ones (1088 + i) (omega arith) ∙ w .existing i l;
     taken = taken-more;
     ends = ends-more;
     links = λ j l f. by-eq j n
@@ -339,7 +299,7 @@ module _ {t : Table} {n : ℕ} {s : Subject} {ok : Bool} {m after : List ℕ} (k
       (λ p. rw (
         ne-eqb x 256 p,
         lt-ltb x 256 (omega (arith, slot-most b)),
-        r .counts .others (64 + x) (λ q. omega (arith, q, few)) (λ q. omega (arith, q, few)),
+        r .counts .others (32 + x) (λ q. omega (arith, q, few)) (λ q. omega (arith, q, few)),
         w .taken x (omega (arith, slot-most b)),
       ) (mark-tells (allTo (λ i. not (eqb (placementSlot (blockAt t i)) x)) n)))
     where
@@ -357,14 +317,14 @@ module _ {t : Table} {n : ℕ} {s : Subject} {ok : Bool} {m after : List ℕ} (k
     before-is = λ j l f. rw (link-at j l f) (digits-low (lastTo (sameKey t (serialKey (blockAt t j))) j) (blockAt t j .holder) (descriptorCode s (blockAt t j)) j (last-most (sameKey t (serialKey (blockAt t j))) j) (omega (arith, l, k .small)));
     holder-is = λ j l f. let id = is-between 1 16 (blockAt t j .holder) (w .holders j l f) in
         rw (link-at j l f) (digits-middle (lastTo (sameKey t (serialKey (blockAt t j))) j) (blockAt t j .holder) (descriptorCode s (blockAt t j)) j (last-most (sameKey t (serialKey (blockAt t j))) j) (omega (arith, l, k .small)) (omega (arith, id .most)));
-    serial-is = λ j l f. slot-alone (832 + j) (λ y q. omega (arith, q, y)) ∙ r .counts .others (832 + j) (λ q. omega (arith, q, few)) (λ q. omega (arith, q, few))
+    serial-is = λ j l f. slot-alone (800 + j) (λ y q. omega (arith, q, y)) ∙ r .counts .others (800 + j) (λ q. omega (arith, q, few)) (λ q. omega (arith, q, few))
         ∙ w .block-serials j l f;
   }
     where
       link-at : (j : ℕ) → j < n → isFree (blockAt t j) ≡ false
-          → mark (r .placed) (576 + j)
+          → mark (r .placed) (544 + j)
           ≡ lastTo (sameKey t (serialKey (blockAt t j))) j + 512 * blockAt t j .holder + 131072 * descriptorCode s (blockAt t j)
-      link-at j l f = slot-alone (576 + j) (λ y q. omega (arith, q, y)) ∙ r .counts .others (576 + j) (λ q. omega (arith, q, few)) (λ q. omega (arith, q, few))
+      link-at j l f = slot-alone (544 + j) (λ y q. omega (arith, q, y)) ∙ r .counts .others (544 + j) (λ q. omega (arith, q, few)) (λ q. omega (arith, q, few))
           ∙ w .links j l f
 
       digits-low : (a c d j : ℕ) → a ≤ j → j < 256 → (a + 512 * c + 131072 * d) % 512 ≡ a
@@ -385,48 +345,50 @@ module _ {t : Table} {n : ℕ} {s : Subject} {ok : Bool} {m after : List ℕ} (k
 -- ---- A step
 
 -- The marks have one length throughout.
-pub tested-length : (s : Subject) (n : ℕ) (b : Block) (ok : Bool) (m after : List ℕ) → BlockTested s n b ok m after → length after ≡ length m
-tested-length s n b ok m after t = by-test (isFree b)
-    (λ e. ap (λ (ms : List ℕ). length ms) (t .free e .1))
-    (λ e. by-test (isSoundIn s b m)
-    (λ q. let r = t .held e q in r .links .entries ∙ r .takes .entries ∙ r .counts .entries)
-    (λ q. ap (λ (ms : List ℕ). length ms) (t .unsound e q .1)))
+pub tested-length : (s : Subject) (n : ℕ) (b : Block) (r : Domain) (ok : Bool) (m after : List ℕ) → HeldTested s n b r ok m after → length after ≡ length m
+tested-length s n b r ok m after t = by-test (isSoundIn s b r)
+    (λ q. let d = t .held q in d .links .entries ∙ d .takes .entries ∙ d .counts .entries)
+    (λ q. ap (λ (ms : List ℕ). length ms) (t .unsound q .1))
 
--- What is tested of block n is what the clauses say, and where they hold the marks are right with it.
+-- What is tested of block n is what the clauses say, and where they hold the marks are right with it: ..
 pub record Next (t : Table) (n : ℕ) (s : Subject) (ok : Bool) (after : List ℕ) : Type 0 where
   pub tells : ok ≡ blockSound (t .config .period) (adusPerBlock (t .config) .0) (holderRecord t (blockAt t n)) (blockAt t n) && slotNew t n && serialNew t n
   pub marks : ok ≡ true → Marked t (n + 1) s after
 
-pub tested-next : (t : Table) (n : ℕ) (s : Subject) (ok : Bool) (m after : List ℕ) → About t s → n < 256 → Marked t n s m
-    → BlockTested s n (blockAt t n) ok m after → Next t n s ok after
+-- .. of a Free block, ..
+pub free-next : (t : Table) (n : ℕ) (s : Subject) (m : List ℕ) → n < 256 → Marked t n s m → isFree (blockAt t n) ≡ true
+    → Next t n s (isClear (blockAt t n)) m
 unfolding blockSound
-tested-next t n s ok m after a small w tested = by-test (isFree (blockAt t n))
-    (λ e.
-    let f = tested .free e in
+free-next t n s m small w e =
     let g = free-tested t n e in
     record {
-      tells = f .0 ∙ rw (g .0, g .1, free-sound (blockAt t n .state) (t .config .period) (adusPerBlock (t .config) .0) (holderRecord t (blockAt t n)) (blockAt t n) e)
+      tells = rw (g .0, g .1, free-sound (blockAt t n .state) (t .config .period) (adusPerBlock (t .config) .0) (holderRecord t (blockAt t n)) (blockAt t n) e)
           (sym (and-true (isClear (blockAt t n) && true) ∙ and-true (isClear (blockAt t n))));
-      marks = λ q. rw (f .1) (free-marked t n s m small e (sym (f .0) ∙ q) w);
-    })
-    (λ e. by-test (isSoundIn s (blockAt t n) m)
+      marks = λ q. free-marked t n s m small e q w;
+    }
+
+-- .. and of one that a domain holds.
+pub held-next : (t : Table) (n : ℕ) (s : Subject) (ok : Bool) (m after : List ℕ) → About t s → n < 256 → Marked t n s m
+    → isFree (blockAt t n) ≡ false → HeldTested s n (blockAt t n) (holderRecord t (blockAt t n)) ok m after → Next t n s ok after
+unfolding blockSound
+held-next t n s ok m after a small w e tested = by-test (isSoundIn s (blockAt t n) (holderRecord t (blockAt t n)))
     (λ q.
-    let own = sym (sound-in t n s m a w) ∙ q in
+    let own = sym (sound-in t n s a) ∙ q in
     let k : Kept t n s ok m after = record {
       small = small;
       not-free = e;
       id = held-id (blockAt t n .state) (t .config .period) (adusPerBlock (t .config) .0) (holderRecord t (blockAt t n)) (blockAt t n) e own;
       before = w;
-      does = tested .held e q;
+      does = tested .held q;
     } in
     record {
-      tells = tested .held e q .both ∙ rw (slot-tested k, serial-tested k, own);
+      tells = tested .held q .both ∙ rw (slot-tested k, serial-tested k, own);
       marks = λ _. held-marked k;
     })
     (λ q.
-    let own = sym (sound-in t n s m a w) ∙ q in
-    let f = tested .unsound e q in
+    let own = sym (sound-in t n s a) ∙ q in
+    let f = tested .unsound q in
     record {
       tells = f .0 ∙ rw own;
       marks = λ y. absurd (true≢false (sym y ∙ f .0));
-    }))
+    })

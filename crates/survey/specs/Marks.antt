@@ -1,44 +1,20 @@
 -- The marks of the pass over the blocks: what each of its functions reads of them and leaves.
-use Prim.Native.Nat.{ℕ, zero, suc, _+_, _-_, _*_, _/_, _%_, _<_}
+use Prim.Native.Nat.{ℕ, zero, suc, _+_, _-_, _*_, _/_, _%_}
 use mathlib.Core.Bool.{Bool, true, not, _&&_, _||_, cond}
 use mathlib.Core.List.{List}
 use mathlib.Core.Path.{_≡_}
 use lib.Dec.{eqb, leb, ltb}
-use lib.ListN.{getD, length, replicate, set}
-use Rattle.survey.specs.declared.marks.Holder.{Holder}
-use Rattle.model.specs.declared.table.Domain.{Domain}
-use Rattle.rules.specs.Drive.{clearDomain}
+use lib.ListN.{getD, length, replicate}
 
 -- How many marks there are, and one of them.
 abbrev pub markCount : ℕ
-markCount = 1104
+markCount = 1056
 
 abbrev pub mark : List ℕ → ℕ → ℕ
 mark marks i = getD marks i 0
 
--- ---- The domains
-
--- What the pass needs of the first n domains, put into its marks.
-unfoldable pub preparedTo : List Domain → ℕ → List ℕ
-preparedTo rs zero = replicate markCount 0
-preparedTo rs (suc n) =
-    let r = getD rs n clearDomain in
-    set (set (set (preparedTo rs n) (32 + n) (r .last)) (48 + n) (r .placements)) (1088 + n) (cond (r .exists) 1 0)
-
-abbrev pub preparedMarks : List Domain → List ℕ
-preparedMarks rs = preparedTo rs 16
-
--- A domain's record, of which no more is told than whether it exists, its number of placement IDs and its last serial.
-abbrev pub domainTold : Bool → ℕ → ℕ → Domain
-domainTold exists placements last =
-    record { exists = exists; reserved = 0; quota = 0; placements = placements; limit = 0; last = last }
-
-abbrev pub holderOf : Holder → Domain
-holderOf h = domainTold (h .exists) (h .placements) (h .last)
-
--- What the marks tell of it.
-abbrev pub holderIn : List ℕ → ℕ → Domain
-holderIn marks n = domainTold (not (eqb (mark marks (1088 + n)) 0)) (mark marks (48 + n)) (mark marks (32 + n))
+abbrev pub noMarks : List ℕ
+noMarks = replicate markCount 0
 
 -- ---- What changes
 
@@ -52,18 +28,18 @@ pub record Counted (n : ℕ) (opened : Bool) (before after : List ℕ) : Type 0 
 -- A slot is taken; 256 is none.
 pub record SlotTaken (slot : ℕ) (new : Bool) (before after : List ℕ) : Type 0 where
   pub entries : length after ≡ length before
-  pub first : new ≡ eqb slot 256 || eqb (mark before (64 + slot)) 0
-  pub now-taken : ¬ (slot ≡ 256) → mark after (64 + slot) ≡ 1
-  pub others : (j : ℕ) → ¬ (j ≡ 64 + slot) → mark after j ≡ mark before j
+  pub first : new ≡ eqb slot 256 || eqb (mark before (32 + slot)) 0
+  pub now-taken : ¬ (slot ≡ 256) → mark after (32 + slot) ≡ 1
+  pub others : (j : ℕ) → ¬ (j ≡ 32 + slot) → mark after j ≡ mark before j
   pub none : slot ≡ 256 → after ≡ before
 
 -- The block before one in its chain, counted from 1; a link that leads nowhere ends it.
 abbrev pub chainBefore : List ℕ → ℕ → ℕ
-chainBefore marks at = let before = mark marks (576 + (at - 1)) % 512 in cond (ltb before at) before 0
+chainBefore marks at = let before = mark marks (544 + (at - 1)) % 512 in cond (ltb before at) before 0
 
 abbrev pub sameInChain : List ℕ → ℕ → ℕ → ℕ → Bool
 sameInChain marks holder serial at =
-    eqb holder (mark marks (576 + (at - 1)) / 512 % 256) && eqb serial (mark marks (832 + (at - 1)))
+    eqb holder (mark marks (544 + (at - 1)) / 512 % 256) && eqb serial (mark marks (800 + (at - 1)))
 
 -- No block of a chain has this holder and this serial; each leads to one with a smaller number.
 unfoldable pub chainDiffersIn : ℕ → List ℕ → ℕ → ℕ → ℕ → Bool
@@ -76,12 +52,12 @@ chainDiffers marks holder serial at = chainDiffersIn at marks holder serial at
 
 -- A block ends the chain of its key.
 abbrev pub chainFrom : List ℕ → ℕ → ℕ
-chainFrom marks key = let last = mark marks (320 + key) % 512 in cond (leb last 256) last 0
+chainFrom marks key = let last = mark marks (288 + key) % 512 in cond (leb last 256) last 0
 
 pub record Linked (n key holder serial descriptor : ℕ) (differs : Bool) (before after : List ℕ) : Type 0 where
   pub entries : length after ≡ length before
   pub compared : differs ≡ chainDiffers before holder serial (chainFrom before key)
-  pub end : mark after (320 + key) ≡ n + 1
-  pub link : mark after (576 + n) ≡ mark before (320 + key) % 512 + 512 * holder + 131072 * descriptor
-  pub serial-mark : mark after (832 + n) ≡ serial
-  pub others : (j : ℕ) → ¬ (j ≡ 320 + key) → ¬ (j ≡ 576 + n) → ¬ (j ≡ 832 + n) → mark after j ≡ mark before j
+  pub end : mark after (288 + key) ≡ n + 1
+  pub link : mark after (544 + n) ≡ mark before (288 + key) % 512 + 512 * holder + 131072 * descriptor
+  pub serial-mark : mark after (800 + n) ≡ serial
+  pub others : (j : ℕ) → ¬ (j ≡ 288 + key) → ¬ (j ≡ 544 + n) → ¬ (j ≡ 800 + n) → mark after j ≡ mark before j

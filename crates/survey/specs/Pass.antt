@@ -1,12 +1,13 @@
 -- The pass over the blocks: what one step tests and finds.
-use Prim.Native.Nat.{ℕ, _+_, _*_, _/_, min}
+use Prim.Native.Nat.{ℕ, _+_, _*_, _/_, _<_, min}
 use mathlib.Core.Bool.{Bool, true, false, _&&_, cond}
 use mathlib.Core.List.{List, [], _∷_}
 use mathlib.Core.Path.{_≡_}
 use lib.Dec.{eqb, ltb}
+use lib.ListN.{getD}
 use Rattle.survey.specs.Clauses.{blockSound, keyOf, placementSlot, slot}
-use Rattle.survey.specs.Marks.{Counted, Linked, SlotTaken, holderIn}
-use Rattle.survey.specs.declared.pass.Found.the-variants as found
+use Rattle.survey.specs.Marks.{Counted, Linked, SlotTaken}
+use Rattle.survey.specs.declared.pass.Candidate.{Candidate}
 use Rattle.survey.specs.declared.pass.Pass.{Pass}
 use Rattle.survey.specs.declared.pass.Subject.{Subject}
 use Rattle.model.specs.declared.block.Block.{Block}
@@ -15,10 +16,8 @@ use Rattle.model.specs.declared.block.State.the-variants.{Closed, Free, Open}
 use Rattle.model.specs.declared.block.Way.the-variants.{Erase, Placement}
 use Rattle.model.specs.declared.command.Listed.{Listed}
 use Rattle.model.specs.declared.command.Listed.the-variants as listed
-use Rattle.rules.specs.Drive.{closedOf, heldBy, isFree, isOpen, isOpenFor, openOf}
-use Rattle.tables.specs.Changes.{betterOf}
-use Rattle.tables.specs.declared.choice.Choice.{Choice}
-use Rattle.tables.specs.declared.choice.Choice.the-variants.{Block as Chosen, Nothing}
+use Rattle.model.specs.declared.table.Domain.{Domain}
+use Rattle.rules.specs.Drive.{clearDomain, closedOf, heldBy, isFree, isOpen, isOpenFor, openOf}
 
 -- What was found so far, and the marks.
 pub record Passing : Type 0 where
@@ -58,9 +57,9 @@ descriptorCode s b =
 abbrev pub isClear : Block → Bool
 isClear b = eqb (b .holder) 0 && eqb (b .written .0) 0 && eqb (b .left) 0 && eqb (b .serial) 0
 
--- The clauses of a block that is held, with what the marks tell of its holder.
-abbrev pub isSoundIn : Subject → Block → List ℕ → Bool
-isSoundIn s b marks = blockSound (s .period) (s .capacity) (holderIn marks (slot (b .holder))) b
+-- The clauses of a block that is held, with the record of its holder.
+abbrev pub isSoundIn : Subject → Block → Domain → Bool
+isSoundIn s b r = blockSound (s .period) (s .capacity) r b
 
 -- Where they hold, the block is counted, takes its slot and ends the chain of its key.
 pub record Remembered (s : Subject) (n : ℕ) (b : Block) (ok : Bool) (before after : List ℕ) : Type 0 where
@@ -73,43 +72,65 @@ pub record Remembered (s : Subject) (n : ℕ) (b : Block) (ok : Bool) (before af
   pub links : Linked n (keyOf (b .holder) (b .serial)) (b .holder) (b .serial) (descriptorCode s b) differs placed after
   pub both : ok ≡ new && differs
 
--- Of a Free block, and of one that is not sound, the marks remember nothing.
-pub record BlockTested (s : Subject) (n : ℕ) (b : Block) (ok : Bool) (before after : List ℕ) : Type 0 where
-  pub free : isFree b ≡ true → (ok ≡ isClear b) × (after ≡ before)
-  pub unsound : isFree b ≡ false → isSoundIn s b before ≡ false → (ok ≡ false) × (after ≡ before)
-  pub held : isFree b ≡ false → isSoundIn s b before ≡ true → Remembered s n b ok before after
+-- Of one that is not sound the marks remember nothing.
+pub record HeldTested (s : Subject) (n : ℕ) (b : Block) (r : Domain) (ok : Bool) (before after : List ℕ) : Type 0 where
+  pub unsound : isSoundIn s b r ≡ false → (ok ≡ false) × (after ≡ before)
+  pub held : isSoundIn s b r ≡ true → Remembered s n b ok before after
 
 -- ---- What a command is about
 
-abbrev pub isAbout : Subject → ℕ → Block → Bool
-isAbout s n b = cond (s .placing) (heldBy (s .domain) b && isOpenFor (s .number) b) (eqb n (s .number))
-
--- Is it a Free block with fewer erases than the choice?
-abbrev pub isBetter : Choice → Block → Bool
-isBetter Nothing b = isFree b
-isBetter (Chosen m least) b = isFree b && ltb (b .erases) least
-
--- With one block more; a block that is better than the first leaves that one second.
-abbrev pub noticed : Pass → Subject → ℕ → Block → Pass
-noticed p s n b = record {
-  sound = p .sound;
-  found = cond (isAbout s n b) (found.Block n) (p .found);
-  block = cond (isAbout s n b) b (p .block);
-  first = cond (s .choosing) (betterOf (p .first) n b) (p .first);
-  second = cond (s .choosing) (cond (isBetter (p .first) b) (p .first) (betterOf (p .second) n b)) (p .second);
-}
+-- The open block of the placement that it writes to.
+abbrev pub isPlaced : Subject → Block → Bool
+isPlaced s b = cond (s .placing) (heldBy (s .domain) b && isOpenFor (s .number) b) false
 
 -- ---- The steps
 
-abbrev pub withSound : Bool → Pass → Pass
-withSound sound p = record { sound = sound; found = p .found; block = p .block; first = p .first; second = p .second }
+abbrev pub candidate : ℕ → ℕ → Candidate
+candidate n erases = record { number = n; erases = erases }
 
-pub record Stepped (s : Subject) (n : ℕ) (b : Block) (x y : Passing) : Type 0 where
+-- All blocks so far were sound.
+abbrev pub soundIn : Pass → Bool
+soundIn p = eqb (p .sound) 1
+
+abbrev pub soundWith : ℕ → Bool → ℕ
+soundWith sound ok = cond ok sound 0
+
+abbrev pub passWith : ℕ → ℕ → Candidate → Candidate → Pass
+passWith sound found first second = record { sound = sound; found = found; first = first; second = second }
+
+-- A Free block with fewer erases than the first candidate becomes the first, and leaves that one second; or it becomes the second.
+abbrev pub chosenNext : Pass → ℕ → ℕ → Pass
+chosenNext p n erases =
+    cond (ltb erases (p .first .erases)) (passWith (p .sound) (p .found) (candidate n erases) (p .first))
+    (passWith (p .sound) (p .found) (p .first) (cond (ltb erases (p .second .erases)) (candidate n erases) (p .second)))
+
+abbrev pub withSound : ℕ → Pass → Pass
+withSound sound p = passWith sound (p .found) (p .first) (p .second)
+
+-- A Free block more, ..
+abbrev pub freeNext : Pass → Subject → ℕ → Block → Pass
+freeNext p s n b = withSound (soundWith (p .sound) (isClear b)) (cond (s .choosing) (chosenNext p n (b .erases)) p)
+
+-- .. and one that a domain holds.
+abbrev pub heldNext : Pass → Subject → ℕ → Block → Bool → Pass
+heldNext p s n b ok = passWith (soundWith (p .sound) ok) (cond (isPlaced s b) n (p .found)) (p .first) (p .second)
+
+pub record FreeStepped (s : Subject) (n : ℕ) (b : Block) (x y : Passing) : Type 0 where
+  pub found : y .pass ≡ freeNext (x .pass) s n b
+  pub few : s .choosing ≡ true → b .erases < 4294967296
+  pub same-marks : y .marks ≡ x .marks
+
+pub record HeldStepped (s : Subject) (n : ℕ) (b : Block) (r : Domain) (x y : Passing) : Type 0 where
   pub ok : Bool
-  pub tested : BlockTested s n b ok (x .marks) (y .marks)
-  pub found : y .pass ≡ withSound (x .pass .sound && ok) (noticed (x .pass) s n b)
+  pub tested : HeldTested s n b r ok (x .marks) (y .marks)
+  pub found : y .pass ≡ heldNext (x .pass) s n b ok
 
--- A step for each block from number n on.
-unfoldable pub Walked : Subject → ℕ → List Block → Passing → Passing → Type 0
-Walked s n [] x y = y ≡ x
-Walked s n (b ∷ bs) x y = (z : Passing) × Stepped s n b x z × Walked s (n + 1) bs z y
+pub record Stepped (s : Subject) (n : ℕ) (b : Block) (r : Domain) (x y : Passing) : Type 0 where
+  pub free : isFree b ≡ true → FreeStepped s n b x y
+  pub held : isFree b ≡ false → HeldStepped s n b r x y
+
+-- A step for each block from number n on, with the record of its holder among those of the domains.
+unfoldable pub Walked : Subject → List Domain → ℕ → List Block → Passing → Passing → Type 0
+Walked s rs n [] x y = y ≡ x
+Walked s rs n (b ∷ bs) x y =
+    (z : Passing) × Stepped s n b (getD rs (slot (b .holder)) clearDomain) x z × Walked s rs (n + 1) bs z y

@@ -1,21 +1,24 @@
 -- What a command sees of a table.
-use Prim.Native.Nat.{ℕ, _+_, _*_, _/_, _<_, _≤_}
-use mathlib.Core.Bool.{Bool, true, false, cond}
+use Prim.Native.Nat.{ℕ, _+_, _*_, _/_, _<_, _≤_, max}
+use mathlib.Core.Bool.{true, false, _&&_, cond}
 use mathlib.Core.List.{List}
 use mathlib.Core.Option.{Option, none, some}
 use mathlib.Core.Path.{_≡_}
-use lib.ListN.{length, take}
+use lib.Dec.{ltb}
+use lib.ListN.{getD, length, take}
 use Rattle.geometry.specs.Address.{isDomainId}
 use Rattle.geometry.specs.Shape.{adusPerBlock, withinLimits}
-use Rattle.survey.specs.Clauses.{coveredTo, domainsSound}
-use Rattle.survey.specs.Marks.{mark, markCount, preparedMarks}
-use Rattle.survey.specs.Pass.{Passing, Walked, isListed, listMark, passing}
-use Rattle.survey.specs.declared.pass.Found.{Found}
-use Rattle.survey.specs.declared.pass.Found.the-variants.{Block as FoundBlock, Nothing}
+use Rattle.survey.specs.Clauses.{coveredTo, domainSound, domainsSound}
+use Rattle.survey.specs.Marks.{mark, markCount, noMarks}
+use Rattle.survey.specs.Pass.{Passing, Walked, candidate, isListed, listMark, passWith, passing}
+use Rattle.survey.specs.declared.pass.Candidate.{Candidate}
 use Rattle.survey.specs.declared.pass.Pass.{Pass}
 use Rattle.survey.specs.declared.pass.Subject.{Subject}
 use Rattle.survey.specs.declared.sight.Covering.{Covering}
+use Rattle.survey.specs.declared.sight.Found.{Found}
+use Rattle.survey.specs.declared.sight.Found.the-variants.{Block as FoundBlock, Nothing}
 use Rattle.survey.specs.declared.sight.Sight.{Sight}
+use Rattle.survey.specs.declared.sight.View.{View}
 use Rattle.model.specs.declared.command.Listed.{Listed}
 use Rattle.model.specs.declared.table.Domain.{Domain}
 use Rattle.model.specs.declared.table.Table.{Table}
@@ -26,7 +29,16 @@ use Rattle.rules.specs.LogPages.{wearIndex}
 use Rattle.rules.specs.Soundness.{sound}
 use Rattle.tables.specs.Changes.{ErasesKnown, chosen}
 use Rattle.tables.specs.Changing.{presentBlocks}
+use Rattle.tables.specs.declared.choice.Choice.{Choice}
 use Rattle.tables.specs.declared.choice.Choice.the-variants as choice
+
+-- What the pass carries as numbers: a block's number, 256 being none, ..
+abbrev pub foundOf : ℕ → Found
+foundOf n = cond (ltb n 256) (FoundBlock n) Nothing
+
+-- .. and a candidate, with 2^32 erases none.
+abbrev pub choiceOf : Candidate → Choice
+choiceOf c = cond (ltb (c .erases) 4294967296) (choice.Block (c .number) (c .erases)) choice.Nothing
 
 abbrev pub foundIn : Found → Option ℕ
 foundIn Nothing = none
@@ -72,7 +84,7 @@ Seen d x = (t : Table) × Sees t d x
 -- What the marks tell of each block for a list: its mark and 16 times its P/E index, or 0 if it is not listed.
 pub record SeesList (t : Table) (d : ℕ) (which : Listed) (x : Sight) (marks : List ℕ) : Type 0 where
   pub codes : x .sound ≡ true → (n : ℕ) → n < size t
-      → mark marks (576 + n) / 131072
+      → mark marks (544 + n) / 131072
       ≡ cond (isListed which d (blockAt t n)) (listMark (blockAt t n) + 16 * wearIndex (t .config) (blockAt t n .erases)) 0
 
 -- ---- From the pass
@@ -83,26 +95,47 @@ pub record SubjectOf (t : Table) (s : Subject) : Type 0 where
   pub same-capacity : withinLimits (t .config) ≡ true → s .capacity ≡ adusPerBlock (t .config) .0
   pub same-rated : s .rated ≡ t .config .rated
 
--- What the pass over the domains gives.
-pub record DomainsPassed (rs : List Domain) (blocks : ℕ) (marks : List ℕ) (r : Covering) : Type 0 where
-  pub clauses : r .sound ≡ domainsSound rs blocks (mark marks) (λ i. mark marks (16 + i)) 16
-  pub sum-is : r .coverage ≡ coveredTo rs (mark marks) 16
+-- What the pass over the domains has found before the first, with one domain more, and after n of them.
+abbrev pub begunCovering : Covering
+begunCovering = record { sound = true; coverage = 0 }
+
+abbrev pub coveringWith : Covering → ℕ → Domain → ℕ → List ℕ → Covering
+coveringWith c n r blocks marks = record {
+  sound = c .sound && domainSound r blocks (mark marks n) (mark marks (16 + n));
+  coverage = c .coverage + max (r .reserved) (mark marks n);
+}
+
+pub record DomainsPassed (rs : List Domain) (blocks : ℕ) (marks : List ℕ) (n : ℕ) (r : Covering) : Type 0 where
+  pub clauses : r .sound ≡ domainsSound rs blocks (mark marks) (λ i. mark marks (16 + i)) n
+  pub sum-is : r .coverage ≡ coveredTo rs (mark marks) n
 
 -- What was found before the first block.
 abbrev pub begunPass : Pass
-begunPass = record { sound = true; found = Nothing; block = clearBlock; first = choice.Nothing; second = choice.Nothing }
+begunPass = passWith 1 256 (candidate 256 4294967296) (candidate 256 4294967296)
 
 -- The pass went over the blocks of a table, and found this.
 pub record PassedOver (t : Table) (s : Subject) (x : Passing) : Type 0 where
   pub records : length (t .blocks) ≡ 256
   pub entries : length (x .marks) ≡ markCount
-  pub walked : Walked s 0 (take (presentBlocks (t .config)) (t .blocks)) (passing begunPass (preparedMarks (t .domains))) x
+  pub walked : Walked s (t .domains) 0 (take (presentBlocks (t .config)) (t .blocks)) (passing begunPass noMarks) x
+
+-- The number of the block that a command is about: the one that it names, or its placement's open one.
+abbrev pub aboutOf : Subject → Pass → ℕ
+aboutOf s p = cond (s .placing) (p .found) (s .number)
+
+-- What was read of a table.
+pub record Views (t : Table) (v : View) (marks : List ℕ) : Type 0 where
+  pub same-config : v .config ≡ t .config
+  pub passed : PassedOver t (v .subject) (passing (v .pass) marks)
+  pub covered : DomainsPassed (t .domains) (size t) marks 16 (v .covering)
+  pub same-domain : v .domain ≡ domainAt t (v .subject .domain)
+  pub same-block : v .block ≡ getD (take (presentBlocks (t .config)) (t .blocks)) (aboutOf (v .subject) (v .pass)) clearBlock
 
 -- What is seen, of a subject that has its numbers from the table's configuration: the table and the subject's domain, and where the
 -- table is sound, the block that the subject is about, the choice, and what is listed.
-pub record Sighted (t : Table) (s : Subject) (x : Passing) (r : Sight) : Type 0 where
+pub record Sighted (t : Table) (s : Subject) (marks : List ℕ) (r : Sight) : Type 0 where
   pub sees : SubjectOf t s → Sees t (s .domain) r
   pub names : SubjectOf t s → s .placing ≡ false → SeesBlock t (s .number) r
   pub places : SubjectOf t s → s .placing ≡ true → SeesPlacement t (s .domain) (s .number) r
   pub chooses : SubjectOf t s → s .choosing ≡ true → SeesChoice t r
-  pub lists : SubjectOf t s → s .listing ≡ true → SeesList t (s .domain) (s .listed) r (x .marks)
+  pub lists : SubjectOf t s → s .listing ≡ true → SeesList t (s .domain) (s .listed) r marks

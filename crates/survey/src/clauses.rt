@@ -1,5 +1,4 @@
 // The clauses of soundness, of one block and of one domain, and what two blocks may not share.
-use crate::marks::Holder;
 use model::Block;
 use model::Domain;
 use model::State;
@@ -8,8 +7,8 @@ ghost use mathlib.Core.Path.{_≡_};
 ghost use Prim.Native.Nat.{_<_, _≤_, max};
 ghost use Rattle.rules.specs.Soundness.{wayBelow};
 ghost use Rattle.survey.specs.Clauses.{blockSound, domainSound, isOwned, keyOf, placementSlot, slot, slotFor};
-ghost use Rattle.survey.specs.Marks.{holderOf};
 
+// Where the record of a holder stands; the first for what is no domain's ID, whose block is not sound in any case.
 pub(crate) fn slot(holder: u8) -> usize
     ensures { λ r. ⌜ (r ≡ slot holder) × (r < 16) ⌝ }
 {
@@ -21,6 +20,12 @@ pub(crate) fn slot(holder: u8) -> usize
     0
 }
 
+pub fn holder_place(block: Block) -> usize
+    ensures { λ r. ⌜ (r ≡ slot (block .holder)) × (r < 16) ⌝ }
+{
+    slot(block.holder)
+}
+
 fn way_below(placements: u32, way: Way) -> bool
     ensures { λ r. ⌜ r ≡ wayBelow placements way ⌝ }
 {
@@ -30,8 +35,8 @@ fn way_below(placements: u32, way: Way) -> bool
     }
 }
 
-fn is_owned(holder: Holder, block: Block) -> bool
-    ensures { λ r. ⌜ r ≡ isOwned (holderOf holder) block ⌝ }
+fn is_owned(holder: Domain, block: Block) -> bool
+    ensures { λ r. ⌜ r ≡ isOwned holder block ⌝ }
 {
     (1 <= block.holder)
         & (block.holder <= 16)
@@ -40,8 +45,8 @@ fn is_owned(holder: Holder, block: Block) -> bool
 }
 
 // Of a block that a domain holds, with what is told of that domain.
-pub(crate) fn block_sound(period: u64, capacity: u64, holder: Holder, block: Block) -> bool
-    ensures { λ r. ⌜ r ≡ blockSound period capacity (holderOf holder) block ⌝ }
+pub(crate) fn block_sound(period: u64, capacity: u64, holder: Domain, block: Block) -> bool
+    ensures { λ r. ⌜ r ≡ blockSound period capacity holder block ⌝ }
 {
     let left = block.left as u64;
     let state = block.state;
@@ -51,13 +56,13 @@ pub(crate) fn block_sound(period: u64, capacity: u64, holder: Holder, block: Blo
         }
         State::Open(way) => {
             is_owned(holder, block)
-                & way_below(holder.placements, way)
+                & way_below(holder.placements as u32, way)
                 & (block.written.0 < capacity)
                 & ((1 <= left) & (left <= period))
         }
         State::Closed(way) => {
             is_owned(holder, block)
-                & way_below(holder.placements, way)
+                & way_below(holder.placements as u32, way)
                 & (block.written.0 <= capacity)
                 & (left == 0)
         }
@@ -104,15 +109,18 @@ pub(crate) fn domain_sound(domain: Domain, blocks: u64, held: u64, opened: u64) 
     let quota = domain.quota as u64;
     let counts = (domain.reserved <= domain.quota) & (quota <= blocks) & (held <= quota);
     let placements = domain.placements as u32;
-    let limits = ((1 <= placements) & (placements <= 16))
-        & ((placements <= domain.limit) & (domain.limit <= 256))
-        & (opened <= domain.limit as u64);
+    if domain.exists {
+        let limits = ((1 <= placements) & (placements <= 16))
+            & ((placements <= domain.limit) & (domain.limit <= 256))
+            & (opened <= domain.limit as u64);
+        return counts & limits;
+    }
     let clear = (domain.reserved == 0)
         & (domain.quota == 0)
         & (placements == 0)
         & (domain.limit == 0)
         & (domain.last == 0);
-    counts & (!domain.exists | limits) & (domain.exists | clear)
+    counts & clear
 }
 
 pub(crate) fn larger(a: u64, b: u64) -> u64

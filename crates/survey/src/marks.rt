@@ -1,70 +1,31 @@
 // The marks: what the pass over the blocks has to remember of those before, in a lent row of numbers. For each domain
-// the blocks that it holds (from 0) and has open (from 16), its last serial (from 32) and its number of placement IDs
-// (from 48); for each slot whether it is taken (from 64); the last block of each key, counted from 1 (from 320); for each
-// block the one of its key before it with its holder and its descriptor (from 576), and its serial (from 832); and for
-// each domain whether it exists (from 1088).
-use model::Domain;
+// the blocks that it holds (from 0) and has open (from 16); for each slot whether it is taken (from 32); the last block of
+// each key, counted from 1 (from 288); and for each block the one of its key before it with its holder and its descriptor
+// (from 544), and its serial (from 800).
 ghost use mathlib.Core.Bool.{cond};
 ghost use mathlib.Core.Path.{_≡_};
 ghost use Prim.Native.Nat.{_+_, _*_, _%_, _<_, _≤_};
 ghost use lib.Dec.{leb};
 ghost use lib.ListN.{length};
-ghost use Rattle.survey.specs.Marks.{Counted, Linked, SlotTaken, chainDiffers, holderIn, holderOf, markCount, preparedMarks};
+ghost use Rattle.survey.specs.Marks.{Counted, Linked, SlotTaken, chainDiffers, markCount, noMarks};
 
 const OPENED: usize = 16;
 
-const SERIALS: usize = 32;
+const SLOTS: usize = 32;
 
-const PLACEMENTS: usize = 48;
+const ENDS: usize = 288;
 
-const SLOTS: usize = 64;
+const LINKS: usize = 544;
 
-const ENDS: usize = 320;
+const BLOCK_SERIALS: usize = 800;
 
-const LINKS: usize = 576;
+const COUNT: usize = 1056;
 
-const BLOCK_SERIALS: usize = 832;
-
-const EXISTING: usize = 1088;
-
-const COUNT: usize = 1104;
-
-// The marks as the pass begins: what it needs of the domains.
-pub fn prepared(domains: [Domain; 16]) -> [u32; 1104]
-    ensures { λ r. ⌜ r ≡ preparedMarks domains ⌝ }
+// No marks yet.
+pub fn no_marks() -> [u32; 1056]
+    ensures { λ r. ⌜ r ≡ noMarks ⌝ }
 {
-    let mut marks = [0u32; COUNT];
-    for n in 0..16 {
-        let domain = domains[n];
-        marks[SERIALS + n] = domain.last;
-        marks[PLACEMENTS + n] = domain.placements as u32;
-        marks[EXISTING + n] = bit(domain.exists);
-    }
-    marks
-}
-
-fn bit(holds: bool) -> u32
-    ensures { λ r. ⌜ r ≡ cond holds 1 0 ⌝ }
-{
-    if holds { 1 } else { 0 }
-}
-
-// What the marks tell of a domain's record.
-pub(crate) struct Holder {
-    pub exists: bool,
-    pub placements: u32,
-    pub last: u32,
-}
-
-pub(crate) fn holder_in(marks: &[u32], n: usize) -> Holder
-    requires { ⌜ (n < 16) × (length (now marks) ≡ markCount) ⌝ }
-    ensures { λ r. ⌜ holderOf r ≡ holderIn (now (marks .entry)) n ⌝ }
-{
-    Holder {
-        exists: marks[EXISTING + n] != 0,
-        placements: marks[PLACEMENTS + n],
-        last: marks[SERIALS + n],
-    }
+    [0; COUNT]
 }
 
 fn one_more(n: u32) -> u32

@@ -5,32 +5,24 @@ use crate::clauses::placement_slot;
 use crate::clauses::serial_key;
 use crate::clauses::slot;
 use crate::marks::count_block;
-use crate::marks::holder_in;
 use crate::marks::link_block;
 use crate::marks::take_slot;
 use model::Block;
+use model::Domain;
 use model::Listed;
 use model::State;
 use model::Way;
-use tables::Choice;
 use tables::is_closed;
 use tables::is_free;
 use tables::is_held;
 use tables::is_open;
-ghost use mathlib.Core.Bool.{cond};
+ghost use mathlib.Core.Bool.{true, cond};
 ghost use mathlib.Core.Path.{_≡_};
 ghost use Prim.Native.Nat.{_<_};
 ghost use lib.ListN.{length};
 ghost use Rattle.rules.specs.Drive.{isOpenFor};
 ghost use Rattle.survey.specs.Marks.{markCount};
-ghost use Rattle.survey.specs.Pass.{BlockTested, Remembered, Stepped, descriptorCode, isAbout, isBetter, isClear, isListed, listMark, noticed, passing, wearOf};
-ghost use Rattle.tables.specs.Changes.{betterOf};
-
-// A block that is looked for.
-pub enum Found {
-    Nothing,
-    Block(u64),
-}
+ghost use Rattle.survey.specs.Pass.{HeldTested, Remembered, Stepped, chosenNext, descriptorCode, freeNext, heldNext, isClear, isListed, isPlaced, listMark, passing, soundWith, wearOf};
 
 // What a command is about, so that one pass over the blocks finds all that it asks for.
 pub struct Subject {
@@ -49,15 +41,22 @@ pub struct Subject {
     pub rated: u64,
 }
 
-// What was found in the blocks so far.
+// A Free block that may be opened next, by its number and its erases; with 2^32 of them, more than any block has, it is none.
+pub struct Candidate {
+    pub number: u64,
+    pub erases: u64,
+}
+
+// What was found in the blocks so far. It goes from block to block, so it is made of whole words: a part of one would make the
+// next read wait for the last write.
 pub struct Pass {
-    pub sound: bool,
-    // the block that the command is about, and its record
-    pub found: Found,
-    pub block: Block,
+    // 1, or 0 if a block was not sound
+    pub sound: u64,
+    // the open block of the placement that the command writes to; 256 is none
+    pub found: u64,
     // the two Free blocks to be opened next
-    pub first: Choice,
-    pub second: Choice,
+    pub first: Candidate,
+    pub second: Candidate,
 }
 
 // ---- The tests of a block
@@ -129,15 +128,11 @@ fn remember(subject: Subject, n: usize, block: Block, marks: &mut [u32]) -> bool
     new & differs
 }
 
-// The clauses that speak of a block, and of it and one before it. Of a Free block the marks remember nothing.
-fn test_block(subject: Subject, n: usize, block: Block, marks: &mut [u32]) -> bool
+// The clauses that speak of a block that a domain holds, and of it and one before it. Of a block that is not sound the marks remember nothing.
+fn test_held(subject: Subject, n: usize, block: Block, holder: Domain, marks: &mut [u32]) -> bool
     requires { ⌜ (n < 256) × (length (now marks) ≡ markCount) ⌝ }
-    ensures { λ r. ⌜ BlockTested subject n block r (now (marks .entry)) (now (marks .exit)) ⌝ }
+    ensures { λ r. ⌜ HeldTested subject n block holder r (now (marks .entry)) (now (marks .exit)) ⌝ }
 {
-    if is_free(block) {
-        return is_clear(block);
-    }
-    let holder = holder_in(marks, slot(block.holder));
     if block_sound(subject.period, subject.capacity, holder, block) {
         return remember(subject, n, block, marks);
     }
@@ -160,105 +155,91 @@ fn is_open_for(placement: u64, block: Block) -> bool
     }
 }
 
-fn is_about(subject: Subject, n: u64, block: Block) -> bool
-    ensures { λ r. ⌜ r ≡ isAbout subject n block ⌝ }
+// Is it the open block of the placement that the command writes to?
+fn is_placed(subject: Subject, block: Block) -> bool
+    ensures { λ r. ⌜ r ≡ isPlaced subject block ⌝ }
 {
     if subject.placing {
         is_held(block, subject.domain) & is_open_for(subject.number, block)
     } else {
-        n == subject.number
+        false
     }
 }
 
-// Of the choice so far and a block, the one to open: a Free one, with fewer erases.
-fn better(choice: Choice, n: u64, block: Block) -> Choice
-    ensures { λ r. ⌜ r ≡ betterOf choice n block ⌝ }
+fn found_next(found: u64, placed: bool, n: u64) -> u64
+    ensures { λ r. ⌜ r ≡ cond placed n found ⌝ }
 {
-    let state = block.state;
-    match state {
-        State::Free => match choice {
-            Choice::Nothing => Choice::Block(n, block.erases),
-            Choice::Block(_, least) => if block.erases < least {
-                Choice::Block(n, block.erases)
-            } else {
-                choice
-            },
-        },
-        State::Open(_) => choice,
-        State::Closed(_) => choice,
+    if placed { n } else { found }
+}
+
+// ---- The steps
+
+fn sound_with(sound: u64, ok: bool) -> u64
+    ensures { λ r. ⌜ r ≡ soundWith sound ok ⌝ }
+{
+    if ok { sound } else { 0 }
+}
+
+// A Free block with fewer erases than the first candidate becomes the first, and leaves that one second; or it becomes the second.
+fn choose(pass: Pass, n: u64, erases: u32) -> Pass
+    ensures { λ r. ⌜ (r ≡ chosenNext pass n erases) × (erases < 4294967296) ⌝ }
+{
+    let mut next = pass;
+    let count = erases as u64;
+    let new = Candidate {
+        number: n,
+        erases: count,
+    };
+    if count < pass.first.erases {
+        let before = pass.first;
+        next.first = new;
+        next.second = before;
+        return next;
     }
-}
-
-// Is it a Free block with fewer erases than the choice?
-fn is_better(choice: Choice, block: Block) -> bool
-    ensures { λ r. ⌜ r ≡ isBetter choice block ⌝ }
-{
-    match choice {
-        Choice::Nothing => is_free(block),
-        Choice::Block(_, least) => is_free(block) & (block.erases < least),
+    if count < pass.second.erases {
+        next.second = new;
     }
+    next
 }
 
-fn found_next(found: Found, about: bool, n: u64) -> Found
-    ensures { λ r. ⌜ r ≡ cond about (Found.Block n) found ⌝ }
+// A Free block more. Of it the marks remember nothing.
+fn passed_free(pass: Pass, subject: Subject, n: u64, block: Block) -> Pass
+    ensures { λ r. ⌜ (r ≡ freeNext pass subject n block) × (subject .choosing ≡ true → block .erases < 4294967296) ⌝ }
 {
-    if about { Found::Block(n) } else { found }
-}
-
-fn block_next(kept: Block, about: bool, block: Block) -> Block
-    ensures { λ r. ⌜ r ≡ cond about block kept ⌝ }
-{
-    if about { block } else { kept }
-}
-
-fn first_next(choosing: bool, first: Choice, n: u64, block: Block) -> Choice
-    ensures { λ r. ⌜ r ≡ cond choosing (betterOf first n block) first ⌝ }
-{
-    if choosing {
-        better(first, n, block)
-    } else {
-        first
+    let sound = sound_with(pass.sound, is_clear(block));
+    let mut next = pass;
+    if subject.choosing {
+        next = choose(pass, n, block.erases);
     }
-}
-
-// A block that is better than the first leaves that one second.
-fn second_next(choosing: bool, first: Choice, second: Choice, n: u64, block: Block) -> Choice
-    ensures { λ r. ⌜ r ≡ cond choosing (cond (isBetter first block) first (betterOf second n block)) second ⌝ }
-{
-    if choosing {
-        if is_better(first, block) {
-            return first;
-        }
-        return better(second, n, block);
-    }
-    second
-}
-
-// The block that the command is about, and the two to be opened next, with one block more.
-fn notice(pass: Pass, subject: Subject, n: u64, block: Block) -> Pass
-    ensures { λ r. ⌜ r ≡ noticed pass subject n block ⌝ }
-{
-    let about = is_about(subject, n, block);
-    let found = pass.found;
-    let kept = pass.block;
-    let first = pass.first;
-    let second = pass.second;
-    Pass {
-        sound: pass.sound,
-        found: found_next(found, about, n),
-        block: block_next(kept, about, block),
-        first: first_next(subject.choosing, first, n, block),
-        second: second_next(subject.choosing, first, second, n, block),
-    }
-}
-
-// One block more.
-pub fn passed(pass: Pass, subject: Subject, n: usize, block: Block, marks: &mut [u32]) -> Pass
-    requires { ⌜ (n < 256) × (length (now marks) ≡ markCount) ⌝ }
-    ensures { λ r. ⌜ Stepped subject n block (passing pass (now (marks .entry))) (passing r (now (marks .exit))) ⌝ }
-{
-    let sound = pass.sound & test_block(subject, n, block, marks);
-    let mut next = notice(pass, subject, n as u64, block);
     next.sound = sound;
     next
+}
+
+// A block more that a domain holds.
+fn passed_held(pass: Pass, subject: Subject, n: u64, block: Block, sound: bool) -> Pass
+    ensures { λ r. ⌜ r ≡ heldNext pass subject n block sound ⌝ }
+{
+    let mut next = pass;
+    next.sound = sound_with(pass.sound, sound);
+    next.found = found_next(pass.found, is_placed(subject, block), n);
+    next
+}
+
+// One block more, with the record of the domain that holds it.
+pub fn passed(
+    pass: Pass,
+    subject: Subject,
+    n: usize,
+    block: Block,
+    holder: Domain,
+    marks: &mut [u32],
+) -> Pass
+    requires { ⌜ (n < 256) × (length (now marks) ≡ markCount) ⌝ }
+    ensures { λ r. ⌜ Stepped subject n block holder (passing pass (now (marks .entry))) (passing r (now (marks .exit))) ⌝ }
+{
+    if is_free(block) {
+        return passed_free(pass, subject, n as u64, block);
+    }
+    let sound = test_held(subject, n, block, holder, marks);
+    passed_held(pass, subject, n as u64, block, sound)
 }

@@ -1,7 +1,7 @@
 // What a command sees of a table: all that its questions ask of it and its change needs.
 use crate::clauses::domain_sound;
 use crate::clauses::larger;
-use crate::pass::Found;
+use crate::pass::Candidate;
 use crate::pass::Pass;
 use crate::pass::Subject;
 use geometry::Config;
@@ -9,17 +9,20 @@ use geometry::within_limits;
 use model::Block;
 use model::Domain;
 use tables::Choice;
-use tables::clear_domain;
 ghost use mathlib.Core.Bool.{cond};
 ghost use mathlib.Core.Path.{_≡_};
 ghost use Prim.Native.Nat.{_+_, _-_, _<_, _≤_};
-ghost use lib.ListN.{getD, length};
+ghost use lib.ListN.{length};
 ghost use Rattle.geometry.specs.Address.{isDomainId};
 ghost use Rattle.model.specs.declared.table.Table.{Table};
-ghost use Rattle.rules.specs.Drive.{clearDomain};
 ghost use Rattle.survey.specs.Marks.{mark, markCount};
-ghost use Rattle.survey.specs.Pass.{passing};
-ghost use Rattle.survey.specs.Sight.{DomainsPassed, PassedOver, Sighted};
+ghost use Rattle.survey.specs.Sight.{Sighted, Views, aboutOf, choiceOf, coveringWith, foundOf};
+
+// A block that is looked for.
+pub enum Found {
+    Nothing,
+    Block(u64),
+}
 
 pub struct Sight {
     pub sound: bool,
@@ -39,9 +42,9 @@ pub struct Sight {
 }
 
 // What the pass over the domains gives: whether their clauses hold, and the coverage.
-struct Covering {
-    sound: bool,
-    coverage: u64,
+pub struct Covering {
+    pub sound: bool,
+    pub coverage: u64,
 }
 
 // A mark with its bound, which an element of a slice comes without.
@@ -51,39 +54,43 @@ fn wide(n: u32) -> u64
     n as u64
 }
 
-// The one pass over the domains.
-fn pass_domains(domains: [Domain; 16], blocks: u64, marks: &[u32]) -> Covering
-    requires { ⌜ length (now marks) ≡ markCount ⌝ }
-    ensures { λ r. ⌜ DomainsPassed domains blocks (now (marks .entry)) r ⌝ }
+// One domain more, with the blocks that the marks have counted for it.
+pub fn domain_passed(
+    covering: Covering,
+    n: usize,
+    domain: Domain,
+    blocks: u64,
+    marks: &[u32],
+) -> Covering
+    requires { ⌜ (n < 16) × (length (now marks) ≡ markCount) ⌝ }
+    requires { ⌜ covering .coverage ≤ 68719476736 ⌝ }
+    ensures { λ r. ⌜ (r ≡ coveringWith covering n domain blocks (now (marks .entry))) × (r .coverage ≤ covering .coverage + 4294967296) ⌝ }
 {
-    let mut sound = true;
-    let mut coverage: u64 = 0;
-    for n in 0..16 {
-        let domain = domains[n];
-        let held = wide(marks[n]);
-        let opened = wide(marks[16 + n]);
-        sound = sound & domain_sound(domain, blocks, held, opened);
-        coverage += larger(domain.reserved as u64, held);
+    let held = wide(marks[n]);
+    let opened = wide(marks[16 + n]);
+    Covering {
+        sound: covering.sound & domain_sound(domain, blocks, held, opened),
+        coverage: covering.coverage + larger(domain.reserved as u64, held),
     }
-    Covering { sound, coverage }
 }
 
-// Where a domain's record stands; domain 0, which is none, has the first domain's place.
-fn place(domain: u64) -> u64
-    ensures { λ r. ⌜ r ≡ domain - 1 ⌝ }
+// Where the record of the command's domain stands; domain 0, which is none, has the first domain's place.
+pub fn place(subject: Subject) -> u64
+    ensures { λ r. ⌜ r ≡ subject .domain - 1 ⌝ }
 {
+    let domain = subject.domain;
     if domain == 0 { 0 } else { domain - 1 }
 }
 
-fn record_of(domains: [Domain; 16], domain: u64) -> Domain
-    ensures { λ r. ⌜ r ≡ getD domains (domain - 1) clearDomain ⌝ }
+// The number of the block that the command is about: the one that it names, or its placement's open one.
+pub fn about(subject: Subject, pass: Pass) -> u64
+    ensures { λ r. ⌜ r ≡ aboutOf subject pass ⌝ }
 {
-    let p = place(domain);
-    if p < 16 {
-        let n = p as usize;
-        return domains[n];
+    if subject.placing {
+        pass.found
+    } else {
+        subject.number
     }
-    clear_domain()
 }
 
 // A domain's entry among the marks from a place on; 0 for what is no domain's ID.
@@ -100,35 +107,60 @@ fn count_of(marks: &[u32], from: usize, domain: u64) -> u64
     0
 }
 
-// What is seen of a table with this configuration and these domains, whose blocks the pass went over.
-pub fn sighted(
-    config: Config,
-    domains: [Domain; 16],
-    subject: Subject,
-    pass: Pass,
-    marks: &[u32],
-) -> Sight
-    requires { ⌜ length (now marks) ≡ markCount ⌝ }
-    ensures { λ r. ⌜ ((t : Table) → t .config ≡ config → t .domains ≡ domains → PassedOver t subject (passing pass (now (marks .entry))) → Sighted t subject (passing pass (now (marks .entry))) r) ⌝ }
+fn found_in(number: u64) -> Found
+    ensures { λ r. ⌜ r ≡ foundOf number ⌝ }
 {
-    let covering = pass_domains(domains, config.blocks, marks);
-    let found = pass.found;
-    let block = pass.block;
-    let first = pass.first;
-    let second = pass.second;
+    if number < 256 {
+        Found::Block(number)
+    } else {
+        Found::Nothing
+    }
+}
+
+fn choice_in(candidate: Candidate) -> Choice
+    ensures { λ r. ⌜ r ≡ choiceOf candidate ⌝ }
+{
+    if candidate.erases < 4294967296 {
+        Choice::Block(candidate.number, candidate.erases as u32)
+    } else {
+        Choice::Nothing
+    }
+}
+
+// What was read of a table for a command: its configuration, what the passes found, and the records of the domain and of
+// the block that the command is about.
+pub struct View {
+    pub config: Config,
+    pub subject: Subject,
+    pub pass: Pass,
+    pub covering: Covering,
+    pub domain: Domain,
+    pub block: Block,
+}
+
+// What is seen of a table with this view of it.
+pub fn sighted(view: View, marks: &[u32]) -> Sight
+    requires { ⌜ length (now marks) ≡ markCount ⌝ }
+    ensures { λ r. ⌜ ((t : Table) → Views t view (now (marks .entry)) → Sighted t (view .subject) (now (marks .entry)) r) ⌝ }
+{
+    let config = view.config;
+    let domain = view.domain;
+    let block = view.block;
+    let first = view.pass.first;
+    let second = view.pass.second;
     Sight {
         sound: within_limits(config)
-            & pass.sound
-            & covering.sound
-            & (covering.coverage <= config.blocks),
+            & (view.pass.sound == 1)
+            & view.covering.sound
+            & (view.covering.coverage <= config.blocks),
         config,
-        domain: record_of(domains, subject.domain),
-        held: count_of(marks, 0, subject.domain),
-        opened: count_of(marks, 16, subject.domain),
-        coverage: covering.coverage,
-        found,
+        domain,
+        held: count_of(marks, 0, view.subject.domain),
+        opened: count_of(marks, 16, view.subject.domain),
+        coverage: view.covering.coverage,
+        found: found_in(view.pass.found),
         block,
-        first,
-        second,
+        first: choice_in(first),
+        second: choice_in(second),
     }
 }

@@ -2,3 +2,4 @@
 pub mod Rows
 pub mod Commands
 pub mod Trials
+pub mod Running

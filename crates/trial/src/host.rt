@@ -1,11 +1,11 @@
 // What another implementation is compared with, and timed against. A row that is too short for a table
 // gets 17, which no question has, and nothing is done.
 use crate::commands::answer_number;
-use crate::commands::command_in;
 use crate::commands::command_of;
 use crate::rows::ROW;
 use crate::rows::put_table;
 use crate::rows::table_in;
+use crate::running::run;
 use geometry::Config;
 use manager::serve;
 use manager::start;
@@ -93,21 +93,9 @@ pub extern "C" fn trial_run(
     if commands.len() < 6 {
         return TOO_SHORT;
     }
-    let mut table = table_in(row);
-    let mut sum: u64 = 0;
-    let mut at: usize = 0;
-    for _ in 0..rounds {
-        let command = command_in(commands, at);
-        let served = serve(table, command, store, words, bytes);
-        let after = served.table;
-        table = after;
-        let answer = served.answer;
-        sum = (sum * 31 + answer_number(answer)) % 4294967296;
-        at = at + 6;
-        if commands.len() - at < 6 {
-            at = 0;
-        }
-    }
-    put_table(row, table);
-    sum
+    let table = table_in(row);
+    let finished = run(table, rounds, commands, store, words, bytes);
+    let after = finished.table;
+    put_table(row, after);
+    finished.sum
 }

@@ -3,6 +3,7 @@
 mod commands;
 mod host;
 mod rows;
+mod running;
 
 pub use host::trial_run;
 pub use host::trial_serve;

@@ -26,10 +26,10 @@ shared-slice-read-code : tie.Need-shared-slice-read-code Inv-loop μ-loop
 shared-slice-read-code c = omega (arith, c .before .loop-test .taken, c .before .before .before .before .before .pre .0 .0, c .before .before .before .before .before .pre .0 .1)
 
 cast-put-descriptor : tie.Need-cast-put-descriptor Inv-loop μ-loop
-cast-put-descriptor c = omega (arith, c .before .before .shared-slice-known2 .given (576 + c .before .before .before .before .loop .n))
+cast-put-descriptor c = omega (arith, c .before .before .shared-slice-known2 .given (544 + c .before .before .before .before .loop .n))
 
 cast-put-descriptor-2 : tie.Need-cast-put-descriptor-2 Inv-loop μ-loop
-cast-put-descriptor-2 c = omega (arith, c .before .before .shared-slice-known2 .given (576 + c .before .before .before .before .loop .n))
+cast-put-descriptor-2 c = omega (arith, c .before .before .shared-slice-known2 .given (544 + c .before .before .before .before .loop .n))
 
 put-descriptor-requires : tie.Need-put-descriptor-requires Inv-loop μ-loop
 put-descriptor-requires c κs = room-for (c .before .before .before .before .loop .inv) (c .before .before .before .before .before .before .before .pre .1)

@@ -5,29 +5,23 @@ use Rattle.manager.specs.Answering.{Answered}
 use Rattle.manager.specs.Subjects.{subjectOf}
 use Rattle.model.specs.declared.command.Command.{Command}
 use Rattle.model.specs.declared.table.Table.{Table}
-use Rattle.survey.specs.Pass.{passing}
 use borrow.Author.Needs.{needs}
 use Rattle.manager.proofs.answering.answered.Statement.{statement}
 use Rattle.manager.proofs.answering.answered.Tie as tie
 
 -- What is seen once the sight is made, if the command is k: of every table, and of one.
-made : (c : tie.After-sighted) (k : Command) → c .before .before .before .before .before .before .args .command ≡ k
-    → Sighting (c .before .before .before .before .before .before .args .config) (c .before .before .before .before .before .before .args .domains) k
-    (passing (c .before .before .before .before .before .before .args .pass) (c .before .before .before .before .before .before .args .marks .now)) (c .sighted .result)
-made c k told = let z = c .before .before .before .before .before .before .args in
-    sighting (z .config) (z .domains) (z .command) k (c .before .subject-of .result) (passing (z .pass) (z .marks .now)) (c .sighted .result)
-    (c .before .subject-of .ensures) told (c .sighted .ensures)
+made : (c : tie.After-sighted) (k : Command) → c .before .before .before .before .before .args .command ≡ k
+    → Sighting (c .before .before .before .before .before .args .view) k (c .before .before .before .before .before .args .marks .now) (c .sighted .result)
+made c k told = let z = c .before .before .before .before .before in
+    sighting (z .args .view) (z .args .command) k (z .args .marks .now) (c .sighted .result) (z .pre) told (c .sighted .ensures)
 
-one : (c : tie.After-sighted) (k : Command) → c .before .before .before .before .before .before .args .command ≡ k
-    → (t : Table) × Sights t (subjectOf (t .config) k) (c .before .before .before .before .before .before .args .marks .now) (c .sighted .result)
-one c k told = let z = c .before .before .before .before .before .before in
-    seen (z .args .config) (z .args .domains) (z .args .command) k (passing (z .args .pass) (z .args .marks .now)) (c .sighted .result) (z .pre) told (made c k told)
-
-subject-of-requires : tie.Need-subject-of-requires
-subject-of-requires c κs = search needs
+one : (c : tie.After-sighted) (k : Command) → c .before .before .before .before .before .args .command ≡ k
+    → (t : Table) × Sights t (subjectOf (t .config) k) (c .before .before .before .before .before .args .marks .now) (c .sighted .result)
+one c k told = let z = c .before .before .before .before .before in
+    seen (z .args .view) (z .args .command) k (z .args .marks .now) (c .sighted .result) (z .pre) (made c k told)
 
 sighted-requires : tie.Need-sighted-requires
-sighted-requires c κs = let z = c .before .before .before .before .before in marks-long (z .args .config) (z .args .domains) (z .args .command) (passing (z .args .pass) (z .args .marks .now)) (z .pre)
+sighted-requires c κs = let z = c .before .before .before .before in marks-long (z .args .view) (z .args .command) (z .args .marks .now) (z .pre)
 
 enum-known-command : tie.Need-enum-known-command
 enum-known-command c = search needs
@@ -107,8 +101,8 @@ enum-known-command-11 c = search needs
 
 list-requires : tie.Need-list-requires
 unfolding subjectOf
-list-requires c κs = let o = one (c .before .before .before .before) _ (c .before .before .command11 .given .1) in let z = c .before .before .before .before .before .before .before .before .before .before in
-    ((o .0, o .1 .sees, o .1 .lists refl), marks-long (z .args .config) (z .args .domains) (z .args .command) (passing (z .args .pass) (z .args .marks .now)) (z .pre))
+list-requires c κs = let o = one (c .before .before .before .before) _ (c .before .before .command11 .given .1) in let z = c .before .before .before .before .before .before .before .before .before in
+    ((o .0, o .1 .sees, o .1 .lists refl), marks-long (z .args .view) (z .args .command) (z .args .marks .now) (z .pre))
 
 unchanged-requires-3 : tie.Need-unchanged-requires-3
 unchanged-requires-3 c κs = search needs
@@ -121,36 +115,36 @@ pulse-requires c κs = search needs
 
 returns : tie.Need-returns
 unfolding subjectOf Answered
-returns c = let z = c .before .before .before .before .before .before .before .before .before .before .args in let told = c .before .before .command .given .1 in
-    rw told (λ t e f p. c .create .ensures t (z .store .now) (z .words .now) (z .bytes .now) (made (c .before .before .before .before) _ told t e f p .sees))
+returns c = let z = c .before .before .before .before .before .before .before .before .before .args in let told = c .before .before .command .given .1 in
+    rw told (λ t p. c .create .ensures t (z .store .now) (z .words .now) (z .bytes .now) (made (c .before .before .before .before) _ told t p .sees))
 
 returns-2 : tie.Need-returns-2
 unfolding subjectOf Answered
-returns-2 c = let z = c .before .before .before .before .before .before .before .before .before .before .args in let told = c .before .before .command2 .given .1 in
-    rw told (λ t e f p. c .change-capacity .ensures t (z .store .now) (z .words .now) (z .bytes .now) (made (c .before .before .before .before) _ told t e f p .sees))
+returns-2 c = let z = c .before .before .before .before .before .before .before .before .before .args in let told = c .before .before .command2 .given .1 in
+    rw told (λ t p. c .change-capacity .ensures t (z .store .now) (z .words .now) (z .bytes .now) (made (c .before .before .before .before) _ told t p .sees))
 
 returns-3 : tie.Need-returns-3
 unfolding subjectOf Answered
-returns-3 c = let z = c .before .before .before .before .before .before .before .before .before .before .args in let told = c .before .before .command3 .given .1 in
-    rw told (λ t e f p. c .delete .ensures t (z .store .now) (z .words .now) (z .bytes .now) (made (c .before .before .before .before) _ told t e f p .sees))
+returns-3 c = let z = c .before .before .before .before .before .before .before .before .before .args in let told = c .before .before .command3 .given .1 in
+    rw told (λ t p. c .delete .ensures t (z .store .now) (z .words .now) (z .bytes .now) (made (c .before .before .before .before) _ told t p .sees))
 
 same-length : tie.Need-same-length
 same-length c = search needs
 
 returns-4 : tie.Need-returns-4
 unfolding subjectOf Answered
-returns-4 c = let z = c .before .before .before .before .before .before .before .before .before .before .before .before .before .args in let told = c .before .before .before .before .before .command4 .given .1 in
-    rw told (λ t e f p. let s = made (c .before .before .before .before .before .before .before) _ told t e f p in c .before .before .erase .ensures t (z .words .now) (z .bytes .now) (s .sees) (s .names refl) (s .chooses refl))
+returns-4 c = let z = c .before .before .before .before .before .before .before .before .before .before .before .before .args in let told = c .before .before .before .before .before .command4 .given .1 in
+    rw told (λ t p. let s = made (c .before .before .before .before .before .before .before) _ told t p in c .before .before .erase .ensures t (z .words .now) (z .bytes .now) (s .sees) (s .names refl) (s .chooses refl))
 
 returns-5 : tie.Need-returns-5
 unfolding subjectOf Answered
-returns-5 c = let z = c .before .before .before .before .before .before .before .before .before .before .args in let told = c .before .before .command5 .given .1 in
-    rw told (λ t e f p. let s = made (c .before .before .before .before) _ told t e f p in c .close .ensures t (z .store .now) (z .words .now) (z .bytes .now) (s .sees) (s .names refl))
+returns-5 c = let z = c .before .before .before .before .before .before .before .before .before .args in let told = c .before .before .command5 .given .1 in
+    rw told (λ t p. let s = made (c .before .before .before .before) _ told t p in c .close .ensures t (z .store .now) (z .words .now) (z .bytes .now) (s .sees) (s .names refl))
 
 returns-6 : tie.Need-returns-6
 unfolding subjectOf Answered
-returns-6 c = let z = c .before .before .before .before .before .before .before .before .before .before .args in let told = c .before .before .command6 .given .1 in
-    rw told (λ t e f p. let s = made (c .before .before .before .before) _ told t e f p in c .free .ensures t (z .store .now) (z .words .now) (z .bytes .now) (s .sees) (s .names refl))
+returns-6 c = let z = c .before .before .before .before .before .before .before .before .before .args in let told = c .before .before .command6 .given .1 in
+    rw told (λ t p. let s = made (c .before .before .before .before) _ told t p in c .free .ensures t (z .store .now) (z .words .now) (z .bytes .now) (s .sees) (s .names refl))
 
 same-length-2 : tie.Need-same-length-2
 same-length-2 c = search needs
@@ -160,8 +154,8 @@ same-length-3 c = search needs
 
 returns-7 : tie.Need-returns-7
 unfolding subjectOf Answered
-returns-7 c = let z = c .before .before .before .before .before .before .before .before .before .before .before .before .before .before .before .before .args in let told = c .before .before .before .before .before .before .before .before .command7 .given .1 in
-    rw told (λ t e f p. let s = made (c .before .before .before .before .before .before .before .before .before .before) _ told t e f p in c .before .before .before .before .write-by-placement .ensures t (z .bytes .now) (s .sees) (s .places refl) (s .chooses refl))
+returns-7 c = let z = c .before .before .before .before .before .before .before .before .before .before .before .before .before .before .before .args in let told = c .before .before .before .before .before .before .before .before .command7 .given .1 in
+    rw told (λ t p. let s = made (c .before .before .before .before .before .before .before .before .before .before) _ told t p in c .before .before .before .before .write-by-placement .ensures t (z .bytes .now) (s .sees) (s .places refl) (s .chooses refl))
 
 same-length-4 : tie.Need-same-length-4
 same-length-4 c = search needs
@@ -171,8 +165,8 @@ same-length-5 c = search needs
 
 returns-8 : tie.Need-returns-8
 unfolding subjectOf Answered
-returns-8 c = let z = c .before .before .before .before .before .before .before .before .before .before .before .before .before .before .before .before .args in let told = c .before .before .before .before .before .before .before .before .command8 .given .1 in
-    rw told (λ t e f p. let s = made (c .before .before .before .before .before .before .before .before .before .before) _ told t e f p in c .before .before .before .before .write-by-block .ensures t (z .bytes .now) (s .sees) (s .names refl))
+returns-8 c = let z = c .before .before .before .before .before .before .before .before .before .before .before .before .before .before .before .args in let told = c .before .before .before .before .before .before .before .before .command8 .given .1 in
+    rw told (λ t p. let s = made (c .before .before .before .before .before .before .before .before .before .before) _ told t p in c .before .before .before .before .write-by-block .ensures t (z .bytes .now) (s .sees) (s .names refl))
 
 same-length-6 : tie.Need-same-length-6
 same-length-6 c = search needs
@@ -182,8 +176,8 @@ same-length-7 c = search needs
 
 returns-9 : tie.Need-returns-9
 unfolding subjectOf Answered
-returns-9 c = let z = c .before .before .before .before .before .before .before .before .before .before .before .before .before .before .before .args in let told = c .before .before .before .before .before .before .before .command9 .given .1 in
-    rw told (λ t e f p. let s = made (c .before .before .before .before .before .before .before .before .before) _ told t e f p in
+returns-9 c = let z = c .before .before .before .before .before .before .before .before .before .before .before .before .before .before .args in let told = c .before .before .before .before .before .before .before .command9 .given .1 in
+    rw told (λ t p. let s = made (c .before .before .before .before .before .before .before .before .before) _ told t p in
     left t _ (c .before .before .before .read .result) (c .unchanged .result) (z .store .now) (z .words .now) (z .bytes .now) _ _ _ (c .unchanged .ensures)
     (c .before .before .before .read .ensures t (z .bytes .now) (s .sees) (sees-read t _ _ (c .before .before .before .before .before .before .before .before .before .sighted .result) (s .sees) (s .names refl))))
 
@@ -192,8 +186,8 @@ same-length-8 c = search needs
 
 returns-10 : tie.Need-returns-10
 unfolding subjectOf Answered
-returns-10 c = let z = c .before .before .before .before .before .before .before .before .before .before .before .before .before .before .args in let told = c .before .before .before .before .before .before .command10 .given .1 in
-    rw told (λ t e f p. let s = made (c .before .before .before .before .before .before .before .before) _ told t e f p in
+returns-10 c = let z = c .before .before .before .before .before .before .before .before .before .before .before .before .before .args in let told = c .before .before .before .before .before .before .command10 .given .1 in
+    rw told (λ t p. let s = made (c .before .before .before .before .before .before .before .before) _ told t p in
     left t _ (c .before .before .before .page .result) (c .unchanged2 .result) (z .store .now) (z .words .now) (z .bytes .now) _ _ _ (c .unchanged2 .ensures)
     (c .before .before .before .page .ensures t (z .store .now) (z .words .now) (s .sees) (s .names refl)))
 
@@ -202,21 +196,20 @@ same-length-9 c = search needs
 
 returns-11 : tie.Need-returns-11
 unfolding subjectOf Answered
-returns-11 c = let z = c .before .before .before .before .before .before .before .before .before .before .before .before .before .before .args in let told = c .before .before .before .before .before .before .command11 .given .1 in
-    rw told (λ t e f p. let s = made (c .before .before .before .before .before .before .before .before) _ told t e f p in
+returns-11 c = let z = c .before .before .before .before .before .before .before .before .before .before .before .before .before .args in let told = c .before .before .before .before .before .before .command11 .given .1 in
+    rw told (λ t p. let s = made (c .before .before .before .before .before .before .before .before) _ told t p in
     left t _ (c .before .before .before .list .result) (c .unchanged3 .result) (z .store .now) (z .words .now) (z .bytes .now) _ _ _ (c .unchanged3 .ensures)
     (c .before .before .before .list .ensures t (z .store .now) (z .words .now) (s .sees) (s .lists refl)))
 
 returns-12 : tie.Need-returns-12
 unfolding subjectOf Answered
-returns-12 c = let z = c .before .before .before .before .before .before .before .before .before .before .args in let told = c .before .before .command12 .given .1 in
-    rw told (λ t e f p. c .pulse .ensures t (z .store .now) (z .words .now) (z .bytes .now) (made (c .before .before .before .before) _ told t e f p .sees))
+returns-12 c = let z = c .before .before .before .before .before .before .before .before .before .args in let told = c .before .before .command12 .given .1 in
+    rw told (λ t p. c .pulse .ensures t (z .store .now) (z .words .now) (z .bytes .now) (made (c .before .before .before .before) _ told t p .sees))
 
 pub answered-spec : {M : Type 1} → statement M
 answered-spec =
     tie.close
     (tie.spec
-    subject-of-requires
     sighted-requires
     enum-known-command
     create-requires

@@ -1,13 +1,16 @@
--- Before the first block nothing is found, and the record is the clear one.
+-- Before the first block nothing is found.
 use borrow.Author.Needs.{needs}
 use Rattle.manager.proofs.subjects.begun_pass.Statement.{statement}
 use Rattle.manager.proofs.subjects.begun_pass.Tie as tie
 
-clear-block-requires : tie.Need-clear-block-requires
-clear-block-requires c κs = search needs
+no-candidate-requires : tie.Need-no-candidate-requires
+no-candidate-requires c κs = search needs
+
+no-candidate-requires-2 : tie.Need-no-candidate-requires-2
+no-candidate-requires-2 c κs = search needs
 
 returns : tie.Need-returns
-returns c = simp (c .clear-block .ensures)
+returns c = rw (c .before .no-candidate .ensures, c .no-candidate2 .ensures)
 
 pub begun-pass-spec : {M : Type 1} → statement M
-begun-pass-spec = tie.close (tie.spec clear-block-requires returns)
+begun-pass-spec = tie.close (tie.spec no-candidate-requires no-candidate-requires-2 returns)

@@ -1,8 +1,6 @@
 use borrow.Author.Needs.{needs}
 use Rattle.survey.proofs.clauses.way_below.Statement.{statement}
 use Rattle.survey.proofs.clauses.way_below.Tie as tie
-use Rattle.survey.proofs.clauses.way_below.Reads as reads
-use Rattle.survey.proofs.clauses.way_below.Lts as lts
 
 enum-told : tie.Need-enum-told
 enum-told c = search needs

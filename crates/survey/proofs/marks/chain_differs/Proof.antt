@@ -13,8 +13,6 @@ use lib.ListN.{length}
 use Rattle.survey.specs.Marks.{chainDiffers, markCount}
 use Rattle.survey.proofs.marks.chain_differs.Statement.{statement}
 use Rattle.survey.proofs.marks.chain_differs.Tie as tie
-use Rattle.survey.proofs.marks.chain_differs.Reads as reads
-use Rattle.survey.proofs.marks.chain_differs.Lts as lts
 
 abbrev Inv-loop : tie.InvT-loop
 Inv-loop marks last holder serial at₀ differs₀ at differs = (at ≤ 256) × (length marks ≡ markCount) × (differs && chainDiffers marks holder serial at ≡ chainDiffers marks holder serial last)
@@ -57,10 +55,10 @@ loop-less c = omega arith
 
 loop-again : tie.Need-loop-again Inv-loop μ-loop
 loop-again c = let l = c .before .before .before .before .loop in let a = c .before .before .before .before .before .args in let m = a .marks .now in
-    let e : chainBefore m (l .at) ≡ mark m (576 + (l .at - 1)) % 512 = rw (lt-ltb (mark m (576 + (l .at - 1)) % 512) (l .at) (c .if1 .taken)) in (
+    let e : chainBefore m (l .at) ≡ mark m (544 + (l .at - 1)) % 512 = rw (lt-ltb (mark m (544 + (l .at - 1)) % 512) (l .at) (c .if1 .taken)) in (
       omega (arith, c .if1 .taken, l .inv .0),
       l .inv .1,
-      and-assoc (l .differs) (not (sameInChain m (a .holder) (a .serial) (l .at))) (chainDiffers m (a .holder) (a .serial) (mark m (576 + (l .at - 1)) % 512))
+      and-assoc (l .differs) (not (sameInChain m (a .holder) (a .serial) (l .at))) (chainDiffers m (a .holder) (a .serial) (mark m (544 + (l .at - 1)) % 512))
           ∙ ap (λ (x : Bool). l .differs && x) (rw (← e) (sym (chain-next m (a .holder) (a .serial) (l .at) (c .before .before .before .loop-test .taken)))) ∙ l .inv .2,
     )
 
@@ -69,7 +67,7 @@ loop-less-2 c = omega arith
 
 loop-again-2 : tie.Need-loop-again-2 Inv-loop μ-loop
 loop-again-2 c = let l = c .before .before .before .before .loop in let a = c .before .before .before .before .before .args in let m = a .marks .now in
-    let e : chainBefore m (l .at) ≡ 0 = rw (le-ltb (mark m (576 + (l .at - 1)) % 512) (l .at) (c .if1 .left)) in (
+    let e : chainBefore m (l .at) ≡ 0 = rw (le-ltb (mark m (544 + (l .at - 1)) % 512) (l .at) (c .if1 .left)) in (
       omega arith,
       l .inv .1,
       and-assoc (l .differs) (not (sameInChain m (a .holder) (a .serial) (l .at))) (chainDiffers m (a .holder) (a .serial) 0)

@@ -2,8 +2,6 @@ use native.Mathlib.Omega.{arith}
 use borrow.Author.Tests.{le-leb, lt-leb}
 use Rattle.survey.proofs.marks.chain_from.Statement.{statement}
 use Rattle.survey.proofs.marks.chain_from.Tie as tie
-use Rattle.survey.proofs.marks.chain_from.Reads as reads
-use Rattle.survey.proofs.marks.chain_from.Lts as lts
 
 returns : tie.Need-returns
 returns c = (rw (le-leb _ 256 (c .if1 .taken)), c .if1 .taken)

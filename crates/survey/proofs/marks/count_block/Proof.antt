@@ -4,9 +4,6 @@ use Rattle.survey.proofs.Marking.{counted-closed, counted-open}
 use borrow.Author.Needs.{needs}
 use Rattle.survey.proofs.marks.count_block.Statement.{statement}
 use Rattle.survey.proofs.marks.count_block.Tie as tie
-use Rattle.survey.proofs.marks.count_block.Reads as reads
-use Rattle.survey.proofs.marks.count_block.Lts as lts
-use Rattle.survey.proofs.marks.one_more.Reads as one-more-reads
 
 mul-held : tie.Need-mul-held
 mul-held c = search needs

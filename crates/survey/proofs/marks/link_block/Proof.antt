@@ -7,10 +7,6 @@ use Rattle.survey.proofs.Marking.{linked}
 use borrow.Author.Needs.{needs}
 use Rattle.survey.proofs.marks.link_block.Statement.{statement}
 use Rattle.survey.proofs.marks.link_block.Tie as tie
-use Rattle.survey.proofs.marks.link_block.Reads as reads
-use Rattle.survey.proofs.marks.link_block.Lts as lts
-use Rattle.survey.proofs.marks.chain_differs.Reads as chain-differs-reads
-use Rattle.survey.proofs.marks.chain_from.Reads as chain-from-reads
 
 add-last : tie.Need-add-last
 add-last c = search needs
@@ -61,7 +57,7 @@ mul-marks-4 : tie.Need-mul-marks-4
 mul-marks-4 c = search needs
 
 slice-write-marks-2 : tie.Need-slice-write-marks-2
-slice-write-marks-2 c = let z = c .before .before .before .before .before in rw (length-set (z .args .marks .now) (320 + z .args .key) (z .args .n + 1)) (omega (arith, z .pre .0, z .pre .3))
+slice-write-marks-2 c = let z = c .before .before .before .before .before in rw (length-set (z .args .marks .now) (288 + z .args .key) (z .args .n + 1)) (omega (arith, z .pre .0, z .pre .3))
 
 add-marks-6 : tie.Need-add-marks-6
 add-marks-6 c = search needs
@@ -70,8 +66,8 @@ mul-marks-5 : tie.Need-mul-marks-5
 mul-marks-5 c = search needs
 
 slice-write-marks-3 : tie.Need-slice-write-marks-3
-slice-write-marks-3 c = let z = c .before .before .before .before .before in let m = set (z .args .marks .now) (320 + z .args .key) (z .args .n + 1) in
-    rw (length-set m (576 + z .args .n) _, length-set (z .args .marks .now) (320 + z .args .key) (z .args .n + 1)) (omega (arith, z .pre .0, z .pre .3))
+slice-write-marks-3 c = let z = c .before .before .before .before .before in let m = set (z .args .marks .now) (288 + z .args .key) (z .args .n + 1) in
+    rw (length-set m (544 + z .args .n) _, length-set (z .args .marks .now) (288 + z .args .key) (z .args .n + 1)) (omega (arith, z .pre .0, z .pre .3))
 
 same-length : tie.Need-same-length
 same-length c = search needs

@@ -5,8 +5,6 @@ use borrow.Author.Tests.{eq-eqb}
 use borrow.Author.Needs.{needs}
 use Rattle.survey.proofs.marks.take_slot.Statement.{statement}
 use Rattle.survey.proofs.marks.take_slot.Tie as tie
-use Rattle.survey.proofs.marks.take_slot.Reads as reads
-use Rattle.survey.proofs.marks.take_slot.Lts as lts
 
 returns : tie.Need-returns
 returns c = record {

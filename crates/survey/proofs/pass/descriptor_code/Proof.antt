@@ -3,11 +3,6 @@ use Rattle.survey.specs.Pass.{descriptorCode}
 use borrow.Author.Needs.{needs}
 use Rattle.survey.proofs.pass.descriptor_code.Statement.{statement}
 use Rattle.survey.proofs.pass.descriptor_code.Tie as tie
-use Rattle.survey.proofs.pass.descriptor_code.Reads as reads
-use Rattle.survey.proofs.pass.descriptor_code.Lts as lts
-use Rattle.survey.proofs.pass.is_listed.Reads as is-listed-reads
-use Rattle.survey.proofs.pass.list_mark.Reads as list-mark-reads
-use Rattle.survey.proofs.pass.wear.Reads as wear-reads
 
 is-listed-requires : tie.Need-is-listed-requires
 is-listed-requires c κs = search needs

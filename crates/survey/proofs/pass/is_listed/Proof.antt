@@ -1,11 +1,6 @@
 use borrow.Author.Needs.{needs}
 use Rattle.survey.proofs.pass.is_listed.Statement.{statement}
 use Rattle.survey.proofs.pass.is_listed.Tie as tie
-use Rattle.survey.proofs.pass.is_listed.Reads as reads
-use Rattle.survey.proofs.pass.is_listed.Lts as lts
-use Rattle.tables.proofs.is_held.Reads as is-held-reads
-use Rattle.tables.proofs.is_closed.Reads as is-closed-reads
-use Rattle.tables.proofs.is_open.Reads as is-open-reads
 
 enum-told : tie.Need-enum-told
 enum-told c = search needs

@@ -1,8 +1,6 @@
 use borrow.Author.Needs.{needs}
 use Rattle.survey.proofs.pass.is_open_for.Statement.{statement}
 use Rattle.survey.proofs.pass.is_open_for.Tie as tie
-use Rattle.survey.proofs.pass.is_open_for.Reads as reads
-use Rattle.survey.proofs.pass.is_open_for.Lts as lts
 
 enum-told : tie.Need-enum-told
 enum-told c = search needs

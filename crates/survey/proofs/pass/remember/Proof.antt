@@ -2,16 +2,6 @@ use mathlib.Core.Path.{refl}
 use borrow.Author.Needs.{needs}
 use Rattle.survey.proofs.pass.remember.Statement.{statement}
 use Rattle.survey.proofs.pass.remember.Tie as tie
-use Rattle.survey.proofs.pass.remember.Reads as reads
-use Rattle.survey.proofs.pass.remember.Lts as lts
-use Rattle.survey.proofs.clauses.placement_slot.Reads as placement-slot-reads
-use Rattle.survey.proofs.clauses.serial_key.Reads as serial-key-reads
-use Rattle.survey.proofs.clauses.slot.Reads as slot-reads
-use Rattle.survey.proofs.marks.count_block.Reads as count-block-reads
-use Rattle.survey.proofs.marks.link_block.Reads as link-block-reads
-use Rattle.survey.proofs.marks.take_slot.Reads as take-slot-reads
-use Rattle.survey.proofs.pass.descriptor_code.Reads as descriptor-code-reads
-use Rattle.tables.proofs.is_open.Reads as is-open-reads
 
 slot-requires : tie.Need-slot-requires
 slot-requires c κs = search needs

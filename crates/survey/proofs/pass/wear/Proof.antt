@@ -3,8 +3,6 @@ use borrow.Author.Tests.{eq-eqb, ne-eqb}
 use borrow.Author.Needs.{needs}
 use Rattle.survey.proofs.pass.wear.Statement.{statement}
 use Rattle.survey.proofs.pass.wear.Tie as tie
-use Rattle.survey.proofs.pass.wear.Reads as reads
-use Rattle.survey.proofs.pass.wear.Lts as lts
 
 returns : tie.Need-returns
 returns c = (rw (eq-eqb _ 0 (c .if1 .taken)), omega arith)

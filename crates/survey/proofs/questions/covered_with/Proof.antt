@@ -5,10 +5,6 @@ use Rattle.tables.proofs.Covering.{covered-instead}
 use borrow.Author.Needs.{needs}
 use Rattle.survey.proofs.questions.covered_with.Statement.{statement}
 use Rattle.survey.proofs.questions.covered_with.Tie as tie
-use Rattle.survey.proofs.questions.covered_with.Reads as reads
-use Rattle.survey.proofs.questions.covered_with.Lts as lts
-use Rattle.survey.proofs.clauses.larger.Reads as larger-reads
-use Rattle.tables.proofs.reserved_by.Reads as reserved-by-reads
 
 -- A sound table has few blocks, and neither its coverage nor what a domain holds is more.
 few : (c : tie.Start) → (c .args .sight .config .blocks ≤ 256) × (c .args .sight .coverage ≤ 256)

@@ -8,11 +8,6 @@ use Rattle.tables.specs.Verdicts.{thenNumber}
 use borrow.Author.Needs.{needs}
 use Rattle.survey.proofs.questions.domain_verdict.Statement.{statement}
 use Rattle.survey.proofs.questions.domain_verdict.Tie as tie
-use Rattle.survey.proofs.questions.domain_verdict.Reads as reads
-use Rattle.survey.proofs.questions.domain_verdict.Lts as lts
-use Rattle.geometry.proofs.is_domain_id.Reads as is-domain-id-reads
-use Rattle.tables.proofs.questions.Verdict.and.Reads as and-reads
-use Rattle.tables.proofs.ask.Reads as ask-reads
 
 is-domain-id-requires : tie.Need-is-domain-id-requires
 is-domain-id-requires c κs = search needs

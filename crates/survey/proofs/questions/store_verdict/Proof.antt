@@ -9,12 +9,6 @@ use Rattle.tables.proofs.Answering.{first-then}
 use borrow.Author.Needs.{needs}
 use Rattle.survey.proofs.questions.store_verdict.Statement.{statement}
 use Rattle.survey.proofs.questions.store_verdict.Tie as tie
-use Rattle.survey.proofs.questions.store_verdict.Reads as reads
-use Rattle.survey.proofs.questions.store_verdict.Lts as lts
-use Rattle.geometry.proofs.store_length.Reads as store-length-reads
-use Rattle.survey.proofs.questions.domain_verdict.Reads as domain-verdict-reads
-use Rattle.tables.proofs.questions.Verdict.then.Reads as then-reads
-use Rattle.tables.proofs.ask.Reads as ask-reads
 
 store-length-requires : tie.Need-store-length-requires
 store-length-requires c κs = search needs

@@ -3,9 +3,6 @@ use borrow.Author.Tests.{le-leb, lt-leb}
 use borrow.Author.Needs.{needs}
 use Rattle.survey.proofs.sight.count_of.Statement.{statement}
 use Rattle.survey.proofs.sight.count_of.Tie as tie
-use Rattle.survey.proofs.sight.count_of.Reads as reads
-use Rattle.survey.proofs.sight.count_of.Lts as lts
-use Rattle.survey.proofs.sight.wide.Reads as wide-reads
 
 add-wide : tie.Need-add-wide
 add-wide c = omega (arith, c .before .before .before .pre .0)

@@ -33,41 +33,36 @@ use denote.Struct.Laws.{lawful}
 use denote.Triple.Call.{calls-at}
 use denote.Triple.Statement.{Triple}
 use borrow.Rule.Slice.Shared.{parts-cells}
-use Rattle.geometry.specs.declared.shape.Config.{Config}
-use Rattle.geometry.proofs.shape.Config as config
 use Rattle.model.specs.declared.command.Command.{Command}
-use Rattle.model.specs.declared.table.Domain.{Domain}
 use Rattle.model.proofs.command.Command as command
 use Rattle.tables.specs.declared.change.Outcome.{Outcome}
 use Rattle.tables.proofs.change.Outcome as outcome
 use Rattle.tables.proofs.change.Outcome.Laws as outcome-laws
-use Rattle.survey.specs.Pass.{passing}
-use Rattle.survey.specs.declared.pass.Pass.{Pass}
-use Rattle.survey.proofs.pass.Pass as pass
+use Rattle.survey.specs.declared.sight.View.{View}
+use Rattle.survey.proofs.sight.View as view
 use Rattle.manager.specs.Answering.{Answered, Viewed}
-use Rattle.manager.proofs.serving.serve_in.Code.Mir.{t-14, t-23}
+use Rattle.manager.proofs.serving.serve_in.Code.Mir.{t-15, t-24}
 use Rattle.manager.proofs.serving.serve_in.Proof.Calls.{answered-name, Answers, Tokens, Slices, Lists, Finals, Lengths, Sights, to-answer, answer-may, answer-gives}
 use Rattle.manager.proofs.serving.serve_in.Proof.Frame.{En, place, holds, empty}
-use Rattle.manager.proofs.serving.serve_in.Proof.InMemory.{domains, marks, marks-apart, marks-whole}
-use Rattle.manager.proofs.serving.serve_in.Proof.Pass.{big-lit}
+use Rattle.manager.proofs.serving.serve_in.Proof.InMemory.{marks, marks-apart, marks-whole}
+use Rattle.manager.proofs.serving.serve_in.Proof.Look.{big-lit}
 use Rattle.manager.proofs.serving.serve_in.Proof.Start.{Goes}
 
 module _ {M : Type 1} (𝓤 : URA M) (H : Heap 𝓤) (A : Atoms 𝓤) (W : Given 𝓤 H A) (𝓣 : Tables 𝓤 H) (bs : List ℕ) (K : Val → SProp 𝓤)
     (mem″ : Memory → SProp 𝓤) (run : Routine → Fun 𝓤) (known : Triple 𝓤 (𝓣 .C answered-name) (Answers 𝓤 H A W mem″ run))
     (κ₁ κ₂ κ₃ : Lft) (q₁ q₂ q₃ : Share) (store words bytes : RefT (List ℕ))
     (store-fits : length (store .now) < 2 ^ 64) (words-fit : length (words .now) < 2 ^ 64) (bytes-fit : length (bytes .now) < 2 ^ 64)
-    (c : Config) (ds : List Domain) (p : Pass) (ms : List ℕ) (k : Command) (cv dv pv mv kv : Val)
-    (is-c : Is config.the-row c (cv ∷ [])) (is-d : Is domains ds (dv ∷ [])) (is-p : Is pass.the-row p (pv ∷ [])) (is-m : Is marks ms (mv ∷ []))
-    (is-k : Is command.the-row k (kv ∷ [])) (viewed : Viewed c ds k (passing p ms)) where
+    (x : View) (ms : List ℕ) (k : Command) (xv mv kv : Val)
+    (is-x : Is view.the-row x (xv ∷ [])) (is-m : Is marks ms (mv ∷ [])) (is-k : Is command.the-row k (kv ∷ [])) (viewed : Viewed x k ms) where
   -- The marks have room.
-  each : length ms ≡ 1104
+  each : length ms ≡ 1056
   each = is-m .1 .0 .1
 
   marked : Room u32 (length ms)
   marked = (omega (arith, each), omega (arith, each))
 
   abbrev l : ℕ
-  l = place 12 bs
+  l = place 11 bs
 
   abbrev sights : GName → RefT (List ℕ)
   sights γ = record { ptr = (l, 0); name = γ; now = ms }
@@ -86,67 +81,67 @@ module _ {M : Type 1} (𝓤 : URA M) (H : Heap 𝓤) (A : Atoms 𝓤) (W : Given
   Last = Finals 𝓤 H A W mem″ run κ₁ κ₂ κ₃ q₁ q₂ q₃ store words bytes
 
   abbrev slice : RefT (List ℕ) → Val
-  slice x = sliceVal (x .ptr) (length (x .now))
+  slice y = sliceVal (y .ptr) (length (y .now))
 
   -- A call with the marks lent for α under γ.
   abbrev to : ℕ → GName → Answers 𝓤 H A W mem″ run .Ghost
-  to α γ = to-answer 𝓤 H A W mem″ run κ₁ κ₂ κ₃ q₁ q₂ q₃ store words bytes α c ds p (sights γ) k cv dv pv kv
+  to α γ = to-answer 𝓤 H A W mem″ run κ₁ κ₂ κ₃ q₁ q₂ q₃ store words bytes α x (sights γ) k xv kv
 
   pub answers : {G : Type 0} {Γ : List (Item 𝓤)} → G
       → ((r : Outcome) (z : Lists 𝓤 H A W mem″ run κ₁ κ₂ κ₃ q₁ q₂ q₃ store words bytes) (rv : Val) → Is outcome.the-row r (rv ∷ [])
-      → Answered c ds k (passing p ms) (store .now) (words .now) (bytes .now) r (z .0) (z .1 .0) (z .1 .1)
+      → Answered x k ms (store .now) (words .now) (bytes .now) r (z .0) (z .1 .0) (z .1 .1)
       → Lengths 𝓤 H A W mem″ run κ₁ κ₂ κ₃ q₁ q₂ q₃ store words bytes z
-      → Goes 𝓤 H A W 𝓣 bs K G (empty 𝓤 H bs 6 ∷ holds 𝓤 H bs 7 dv ∷ empty 𝓤 H bs 13 ∷ empty 𝓤 H bs 12 ∷ empty 𝓤 H bs 2 ∷ empty 𝓤 H bs 3 ∷ empty 𝓤 H bs 4 ∷ empty 𝓤 H bs 5
-      ∷ empty 𝓤 H bs 22 ∷ empty 𝓤 H bs 23 ∷ empty 𝓤 H bs 24 ∷ empty 𝓤 H bs 25 ∷ empty 𝓤 H bs 26 ∷ empty 𝓤 H bs 27 ∷ empty 𝓤 H bs 28 ∷ empty 𝓤 H bs 29
-      ∷ holds 𝓤 H bs 14 rv ∷ raw Toks ∷ ‵ (Last z) ∷ Γ) t-23)
-      → Goes 𝓤 H A W 𝓣 bs K G (holds 𝓤 H bs 6 cv ∷ holds 𝓤 H bs 7 dv ∷ holds 𝓤 H bs 13 pv ∷ holds 𝓤 H bs 12 mv ∷ holds 𝓤 H bs 2 kv ∷ holds 𝓤 H bs 3 (slice store)
-      ∷ holds 𝓤 H bs 4 (slice words) ∷ holds 𝓤 H bs 5 (slice bytes) ∷ empty 𝓤 H bs 22 ∷ empty 𝓤 H bs 23 ∷ empty 𝓤 H bs 24 ∷ empty 𝓤 H bs 25 ∷ empty 𝓤 H bs 26
-      ∷ empty 𝓤 H bs 27 ∷ empty 𝓤 H bs 28 ∷ empty 𝓤 H bs 29 ∷ empty 𝓤 H bs 14 ∷ raw Toks ∷ ‵ Lent ∷ Γ) t-14
+      → Goes 𝓤 H A W 𝓣 bs K G (empty 𝓤 H bs 12 ∷ empty 𝓤 H bs 11 ∷ empty 𝓤 H bs 2 ∷ empty 𝓤 H bs 3 ∷ empty 𝓤 H bs 4 ∷ empty 𝓤 H bs 5
+      ∷ empty 𝓤 H bs 24 ∷ empty 𝓤 H bs 25 ∷ empty 𝓤 H bs 26 ∷ empty 𝓤 H bs 27 ∷ empty 𝓤 H bs 28 ∷ empty 𝓤 H bs 29 ∷ empty 𝓤 H bs 30 ∷ empty 𝓤 H bs 31
+      ∷ holds 𝓤 H bs 13 rv ∷ raw Toks ∷ ‵ (Last z) ∷ Γ) t-24)
+      → Goes 𝓤 H A W 𝓣 bs K G (holds 𝓤 H bs 12 xv ∷ holds 𝓤 H bs 11 mv ∷ holds 𝓤 H bs 2 kv ∷ holds 𝓤 H bs 3 (slice store)
+      ∷ holds 𝓤 H bs 4 (slice words) ∷ holds 𝓤 H bs 5 (slice bytes) ∷ empty 𝓤 H bs 24 ∷ empty 𝓤 H bs 25 ∷ empty 𝓤 H bs 26 ∷ empty 𝓤 H bs 27 ∷ empty 𝓤 H bs 28
+      ∷ empty 𝓤 H bs 29 ∷ empty 𝓤 H bs 30 ∷ empty 𝓤 H bs 31 ∷ empty 𝓤 H bs 13 ∷ raw Toks ∷ ‵ Lent ∷ Γ) t-15
   answers {Γ = Γ} g goes = record {
     prf =
-        qed W (holds 𝓤 H bs 6 cv ∷ holds 𝓤 H bs 7 dv ∷ holds 𝓤 H bs 13 pv ∷ holds 𝓤 H bs 12 mv ∷ holds 𝓤 H bs 2 kv ∷ holds 𝓤 H bs 3 (slice store)
-        ∷ holds 𝓤 H bs 4 (slice words) ∷ holds 𝓤 H bs 5 (slice bytes) ∷ empty 𝓤 H bs 22 ∷ empty 𝓤 H bs 23 ∷ empty 𝓤 H bs 24 ∷ empty 𝓤 H bs 25 ∷ empty 𝓤 H bs 26
-        ∷ empty 𝓤 H bs 27 ∷ empty 𝓤 H bs 28 ∷ empty 𝓤 H bs 29 ∷ empty 𝓤 H bs 14 ∷ raw Toks ∷ ‵ Lent ∷ Γ) ∵
-        exec ! (𝓣 .C) (𝓣 .Λ) (En 𝓤 H bs) t-14 (atRet (En 𝓤 H bs) K) $
+        qed W (holds 𝓤 H bs 12 xv ∷ holds 𝓤 H bs 11 mv ∷ holds 𝓤 H bs 2 kv ∷ holds 𝓤 H bs 3 (slice store)
+        ∷ holds 𝓤 H bs 4 (slice words) ∷ holds 𝓤 H bs 5 (slice bytes) ∷ empty 𝓤 H bs 24 ∷ empty 𝓤 H bs 25 ∷ empty 𝓤 H bs 26 ∷ empty 𝓤 H bs 27 ∷ empty 𝓤 H bs 28
+        ∷ empty 𝓤 H bs 29 ∷ empty 𝓤 H bs 30 ∷ empty 𝓤 H bs 31 ∷ empty 𝓤 H bs 13 ∷ raw Toks ∷ ‵ Lent ∷ Γ) ∵
+        exec ! (𝓣 .C) (𝓣 .Λ) (En 𝓤 H bs) t-15 (atRet (En 𝓤 H bs) K) $
         -- the four slices
-        assigns ! (addr ! (from ! (stop !))) (from ! (stop !)) (init ! 8 refl (tt, tt)) $
-        assigns ! (agg ! (and-then ! (load ! (from ! (stop !)) (look ! 8 refl)) (and-then ! (big-lit ! (record { fits = lit< tt })) (no-more !))))
-        (from ! (stop !)) (init ! 9 refl (tt, (tt, (record { fits = lit< tt }, tt)))) $
-        assigns ! (addr ! (from ! (fld ! refl (hop ! (look-in ! 5 (sub ! 0 refl (whole !))) (stop !))))) (from ! (stop !)) (init ! 10 refl (tt, tt)) $
-        assigns ! (agg ! (and-then ! (load ! (from ! (stop !)) (look ! 10 refl)) (and-then ! (load ! (from ! (fld ! refl (stop !))) (look-in ! 5 (sub ! 1 refl (whole !))))
-        (no-more !)))) (from ! (stop !)) (init ! 11 refl (tt, (tt, (record { fits = store-fits }, tt)))) $
-        assigns ! (addr ! (from ! (fld ! refl (hop ! (look-in ! 6 (sub ! 0 refl (whole !))) (stop !))))) (from ! (stop !)) (init ! 12 refl (tt, tt)) $
-        assigns ! (agg ! (and-then ! (load ! (from ! (stop !)) (look ! 12 refl)) (and-then ! (load ! (from ! (fld ! refl (stop !))) (look-in ! 6 (sub ! 1 refl (whole !))))
-        (no-more !)))) (from ! (stop !)) (init ! 13 refl (tt, (tt, (record { fits = words-fit }, tt)))) $
-        assigns ! (addr ! (from ! (fld ! refl (hop ! (look-in ! 7 (sub ! 0 refl (whole !))) (stop !))))) (from ! (stop !)) (init ! 14 refl (tt, tt)) $
-        assigns ! (agg ! (and-then ! (load ! (from ! (stop !)) (look ! 14 refl)) (and-then ! (load ! (from ! (fld ! refl (stop !))) (look-in ! 7 (sub ! 1 refl (whole !))))
-        (no-more !)))) (from ! (stop !)) (init ! 15 refl (tt, (tt, (record { fits = bytes-fit }, tt)))) $
+        assigns ! (addr ! (from ! (stop !))) (from ! (stop !)) (init ! 6 refl (tt, tt)) $
+        assigns ! (agg ! (and-then ! (load ! (from ! (stop !)) (look ! 6 refl)) (and-then ! (big-lit ! (record { fits = lit< tt })) (no-more !))))
+        (from ! (stop !)) (init ! 7 refl (tt, (tt, (record { fits = lit< tt }, tt)))) $
+        assigns ! (addr ! (from ! (fld ! refl (hop ! (look-in ! 3 (sub ! 0 refl (whole !))) (stop !))))) (from ! (stop !)) (init ! 8 refl (tt, tt)) $
+        assigns ! (agg ! (and-then ! (load ! (from ! (stop !)) (look ! 8 refl)) (and-then ! (load ! (from ! (fld ! refl (stop !))) (look-in ! 3 (sub ! 1 refl (whole !))))
+        (no-more !)))) (from ! (stop !)) (init ! 9 refl (tt, (tt, (record { fits = store-fits }, tt)))) $
+        assigns ! (addr ! (from ! (fld ! refl (hop ! (look-in ! 4 (sub ! 0 refl (whole !))) (stop !))))) (from ! (stop !)) (init ! 10 refl (tt, tt)) $
+        assigns ! (agg ! (and-then ! (load ! (from ! (stop !)) (look ! 10 refl)) (and-then ! (load ! (from ! (fld ! refl (stop !))) (look-in ! 4 (sub ! 1 refl (whole !))))
+        (no-more !)))) (from ! (stop !)) (init ! 11 refl (tt, (tt, (record { fits = words-fit }, tt)))) $
+        assigns ! (addr ! (from ! (fld ! refl (hop ! (look-in ! 5 (sub ! 0 refl (whole !))) (stop !))))) (from ! (stop !)) (init ! 12 refl (tt, tt)) $
+        assigns ! (agg ! (and-then ! (load ! (from ! (stop !)) (look ! 12 refl)) (and-then ! (load ! (from ! (fld ! refl (stop !))) (look-in ! 5 (sub ! 1 refl (whole !))))
+        (no-more !)))) (from ! (stop !)) (init ! 13 refl (tt, (tt, (record { fits = bytes-fit }, tt)))) $
         -- the marks are lent
-        move ! (3 ∷ []) $ use1 W (‵ (cells (mem u32) ms l 0)) (marks-apart 𝓤 H A W l ms mv is-m) $
+        move ! (1 ∷ []) $ use1 W (‵ (cells (mem u32) ms l 0)) (marks-apart 𝓤 H A W l ms mv is-m) $
         rewrite ! 0 (λ (F : Fml). ‵ F) (sym (parts-cells u32 fullShare ms l 0)) refl $ feqI ! ℕ (length ms) (length ms) refl $ fjoin ! $
         lft-new ! tt (λ α. move ! (1 ∷ []) $
-        use1 W (later (some (λ (γ : GName). ‵ (Sights 𝓤 H A W mem″ run κ₁ κ₂ κ₃ q₁ q₂ q₃ store words bytes α c ds p (sights γ) k cv dv pv kv) ⊛ ‵ (flent (α ∷ []) Shared))))
+        use1 W (later (some (λ (γ : GName). ‵ (Sights 𝓤 H A W mem″ run κ₁ κ₂ κ₃ q₁ q₂ q₃ store words bytes α x (sights γ) k xv kv) ⊛ ‵ (flent (α ∷ []) Shared))))
         (lends-shr-slice 𝓤 H A W u32 (named 0) (α ∷ []) fullShare ms l 0 marked) $ await ! tt $ pick ! (λ γ. split ! $
         -- the call
-        move ! (2 ∷ 19 ∷ []) $ join ! $ move ! (0 ∷ 1 ∷ 19 ∷ []) $
+        move ! (2 ∷ 17 ∷ []) $ join ! $ move ! (0 ∷ 1 ∷ 17 ∷ []) $
         use3 W (raw (Answers 𝓤 H A W mem″ run .pre (to α γ)))
-        (answer-may 𝓤 H A W mem″ run κ₁ κ₂ κ₃ q₁ q₂ q₃ store words bytes α c ds p (sights γ) k cv dv pv kv is-c is-d is-p is-k viewed) $
-        rewrite ! 10 (λ (m : ℕ). holds 𝓤 H bs 23 (sliceVal (l, 0) m)) (sym each) refl $
+        (answer-may 𝓤 H A W mem″ run κ₁ κ₂ κ₃ q₁ q₂ q₃ store words bytes α x (sights γ) k xv kv is-x is-k viewed) $
+        rewrite ! 8 (λ (m : ℕ). holds 𝓤 H bs 25 (sliceVal (l, 0) m)) (sym each) refl $
         calls-at ! (fmOf 𝓤 H (W .laws) 𝓣) (Answers 𝓤 H A W mem″ run) known (to α γ)
-        (and-then ! (load ! (from ! (stop !)) (look ! 2 refl)) (and-then ! (load ! (from ! (stop !)) (look ! 3 refl)) (and-then ! (load ! (from ! (stop !)) (look ! 4 refl))
-        (and-then ! (load ! (from ! (stop !)) (look ! 10 refl)) (and-then ! (load ! (from ! (stop !)) (look ! 5 refl)) (and-then ! (load ! (from ! (stop !)) (look ! 12 refl))
-        (and-then ! (load ! (from ! (stop !)) (look ! 14 refl)) (and-then ! (load ! (from ! (stop !)) (look ! 16 refl)) (no-more !))))))))) (λ v.
+        (and-then ! (load ! (from ! (stop !)) (look ! 2 refl)) (and-then ! (load ! (from ! (stop !)) (look ! 8 refl)) (and-then ! (load ! (from ! (stop !)) (look ! 3 refl))
+        (and-then ! (load ! (from ! (stop !)) (look ! 10 refl)) (and-then ! (load ! (from ! (stop !)) (look ! 12 refl)) (and-then ! (load ! (from ! (stop !)) (look ! 14 refl))
+        (no-more !))))))) (λ v.
         use1 W (later (some (λ (r : Outcome). given (Is outcome.the-row r (v ∷ [])) ((‵ (flft (α ∷ []) fullShare) ⊛ raw Toks)
         ⊛ some (λ (z : Lists 𝓤 H A W mem″ run κ₁ κ₂ κ₃ q₁ q₂ q₃ store words bytes).
-        given (Answered c ds k (passing p ms) (store .now) (words .now) (bytes .now) r (z .0) (z .1 .0) (z .1 .1)
+        given (Answered x k ms (store .now) (words .now) (bytes .now) r (z .0) (z .1 .0) (z .1 .1)
         × Lengths 𝓤 H A W mem″ run κ₁ κ₂ κ₃ q₁ q₂ q₃ store words bytes z) (‵ (Last z)))))))
-        (answer-gives 𝓤 H A W mem″ run κ₁ κ₂ κ₃ q₁ q₂ q₃ store words bytes α c ds p (sights γ) k cv dv pv kv v) $ await ! tt $
+        (answer-gives 𝓤 H A W mem″ run κ₁ κ₂ κ₃ q₁ q₂ q₃ store words bytes α x (sights γ) k xv kv v) $ await ! tt $
         pick ! (λ r. learn ! (λ is-r. split ! $ move ! (1 ∷ []) $ pick ! (λ z. learn ! (λ f. move ! (1 ∷ []) $ split ! $
-        land ! (from ! (stop !)) (init ! 19 refl (lawful outcome.the-type outcome-laws.the-laws 𝓤 H A W .typed r (v ∷ []) is-r .0)) $
-        forget ! 4 refl $ forget ! 6 refl $ forget ! 7 refl $ forget ! 8 refl $ forget ! 9 refl $ forget ! 10 refl $ forget ! 11 refl $ forget ! 12 refl $
-        forget ! 13 refl $ forget ! 14 refl $ forget ! 15 refl $ forget ! 16 refl $ forget ! 17 refl $ forget ! 18 refl $
+        land ! (from ! (stop !)) (init ! 17 refl (lawful outcome.the-type outcome-laws.the-laws 𝓤 H A W .typed r (v ∷ []) is-r .0)) $
+        forget ! 4 refl $ forget ! 5 refl $ forget ! 6 refl $ forget ! 7 refl $ forget ! 8 refl $ forget ! 9 refl $ forget ! 10 refl $ forget ! 11 refl $ forget ! 12 refl $
+        forget ! 13 refl $ forget ! 14 refl $ forget ! 15 refl $ forget ! 16 refl $
         -- the marks come back, and are not needed any more
         lft-end ! tt $ move ! (0 ∷ 3 ∷ []) $ lent-back ! tt $ fsplit ! $ drop ! $ rewrite ! 0 (λ (F : Fml). ‵ F) (parts-cells u32 fullShare ms l 0) refl $
-        use1 W (some (λ (u : Val). given (Is marks ms (u ∷ [])) (holds 𝓤 H bs 12 u))) (marks-whole 𝓤 H A W l ms each) $ pick ! (λ u. learn ! (λ is-u. forget ! 0 refl $
-        move ! (3 ∷ 4 ∷ 5 ∷ 0 ∷ 6 ∷ 7 ∷ 8 ∷ 9 ∷ 10 ∷ 11 ∷ 12 ∷ 13 ∷ 14 ∷ 15 ∷ 16 ∷ 17 ∷ 18 ∷ []) $ by ! (goes r z v is-r (f .0) (f .1) .prf))))))))));
+        use1 W (some (λ (u : Val). given (Is marks ms (u ∷ [])) (holds 𝓤 H bs 11 u))) (marks-whole 𝓤 H A W l ms each) $ pick ! (λ u. learn ! (λ is-u. forget ! 0 refl $
+        move ! (3 ∷ 0 ∷ 4 ∷ 5 ∷ 6 ∷ 7 ∷ 8 ∷ 9 ∷ 10 ∷ 11 ∷ 12 ∷ 13 ∷ 14 ∷ 15 ∷ 16 ∷ []) $ by ! (goes r z v is-r (f .0) (f .1) .prf))))))))));
   }

@@ -20,24 +20,29 @@ use Rattle.geometry.proofs.shape.Config.Laws as config
 use Rattle.model.proofs.answer.Answer.Laws as answer
 use Rattle.model.proofs.block.Block as block
 use Rattle.model.proofs.command.Command.Laws as command
-use Rattle.model.proofs.table.Domain.Laws as domain
+use Rattle.model.proofs.table.Domain as domain
+use Rattle.model.proofs.table.Domain.Laws as domain-laws
 use Rattle.model.proofs.table.Table as table
 use Rattle.tables.proofs.change.Change.Laws as change
 use Rattle.tables.proofs.change.Outcome.Laws as outcome
 use Rattle.survey.proofs.pass.Pass.Laws as pass
 use Rattle.survey.proofs.pass.Subject.Laws as subject
+use Rattle.survey.proofs.sight.View.Laws as view
 use Rattle.manager.proofs.subjects.Beginning.Laws as beginning
 use Rattle.manager.proofs.serving.serve_in.Code as code
 
--- A word, the marks, the domains, and references to the words, the bytes, the marks and the records.
+-- A word, the marks, the records and the domains in a table, and one of them.
 abbrev pub word : Ty
 word = tyInt w64
 
 abbrev pub markArray : Ty
-markArray = tyArray (tyInt w32) 1104
+markArray = tyArray (tyInt w32) 1056
 
 abbrev pub domainArray : Ty
-domainArray = tyArray domain.mir 16
+domainArray = pointee (Array domain.the-row 16 .written)
+
+abbrev pub domainType : Ty
+domainType = pointee (domain.the-row .written)
 
 abbrev pub blockArray : Ty
 blockArray = pointee (Array block.the-row 256 .written)
@@ -53,19 +58,21 @@ localTypes = answer.mir
     ∷ sliceTy (tyRef (named 2) mut word)
     ∷ sliceTy (tyRef (named 3) mut (tyInt w8))
     ∷ config.mir
-    ∷ domainArray
     ∷ beginning.mir
     ∷ word
     ∷ subject.mir
     ∷ pass.mir
     ∷ markArray
-    ∷ pass.mir
+    ∷ view.mir
     ∷ outcome.mir
     ∷ change.mir
-    ∷ domainArray
+    ∷ word
+    ∷ domain-laws.mir
     ∷ markArray
     ∷ tyRef erased imm blockArray
     ∷ sliceTy (tyRef erased imm blockType)
+    ∷ tyRef erased imm domainArray
+    ∷ sliceTy (tyRef erased imm domainType)
     ∷ tyRef erased mut markArray
     ∷ sliceTy (tyRef erased mut (tyInt w32))
     ∷ tyRef erased imm markArray
@@ -79,12 +86,14 @@ localTypes = answer.mir
     ∷ tyUnit
     ∷ tyRef erased mut blockArray
     ∷ sliceTy (tyRef erased mut blockType)
+    ∷ tyRef erased mut domainArray
+    ∷ sliceTy (tyRef erased mut domainType)
     ∷ []
 
 -- Only the marks, which are lent, need a place in memory.
 abbrev pub homes : List Home
 homes = valueLocal ∷ valueLocal ∷ valueLocal ∷ valueLocal ∷ valueLocal ∷ valueLocal ∷ valueLocal ∷ valueLocal ∷ valueLocal ∷ valueLocal ∷ valueLocal
-    ∷ valueLocal ∷ memorySlot ∷ []
+    ∷ memorySlot ∷ []
 
 pub locals-are : locs localTypes homes ≡ code.function .locals
 locals-are = refl
