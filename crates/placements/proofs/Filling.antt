@@ -1,34 +1,31 @@
 -- A block that is chosen, opened and written is one step, and leaves the table for the next.
-use Prim.Native.Nat.{ℕ, zero, suc, _+_, _-_, _≤_, _<_, min}
-use mathlib.Core.Bool.{Bool, true, false, true≢false, cond}
-use mathlib.Core.List.{List, [], _∷_, _++_}
+use Prim.Native.Nat.{ℕ, _-_, _≤_, _<_, min}
+use mathlib.Core.Bool.{true}
+use mathlib.Core.List.{List}
 use mathlib.Core.Option.{Option, none, some}
 use mathlib.Core.Path.{_≡_, refl, sym, ap, subst, _∙_}
 use native.Mathlib.Omega.{arith}
-use lib.Dec.{eqb, ltb}
-use lib.ListN.{getD, length, length-set, set}
-use lib.Seq.{getD-set-other, getD-set-same}
+use lib.Dec.{eqb}
+use lib.ListN.{length}
+use lib.Seq.{getD-set-same}
 use borrow.Author.Tests.{eq-eqb, ne-eqb}
 use Rattle.geometry.proofs.Laws.Shape.{by-test, limits}
 use Rattle.geometry.specs.Shape.{adusPerBlock, withinLimits}
-use Rattle.geometry.specs.declared.shape.Config.{Config}
 use Rattle.model.specs.declared.block.Block.{Block}
 use Rattle.model.specs.declared.block.Way.the-variants.{Placement}
 use Rattle.model.specs.declared.table.Domain.{Domain}
 use Rattle.model.specs.declared.table.Table.{Table}
 use Rattle.rules.proofs.Blocks as rules
-use Rattle.rules.proofs.Counting.{by-eq, clash}
 use Rattle.rules.proofs.Drive.{overwritten-nothing}
-use Rattle.rules.specs.Blocks.{Written, chosenBlock, chosenTo, openedFor, userAddresses, writtenInto}
+use Rattle.rules.specs.Blocks.{Written, chosenBlock, openedFor, userAddresses, writtenInto}
 use Rattle.rules.specs.Drive.{Drive, blockAt, clearBlock, domainAt, isFree, overwritten, size, withBlock, withDomain}
-use Rattle.survey.specs.Sight.{SameFree}
 use Rattle.tables.specs.Serving.{drive}
 use Rattle.transfers.specs.Transfers.{Wrote}
 use Rattle.tables.specs.Changes.{chosen}
 use Rattle.tables.specs.declared.choice.Choice.{Choice}
-use Rattle.tables.specs.declared.choice.Choice.the-variants.{Block as Chosen, Nothing}
-use Rattle.placements.proofs.Tables.{own-domain, put-none, put-one, put-other, put-same, set-twice}
-use Rattle.placements.specs.Placing.{Chooses, ChoosesFirst, filledTable, nothingWritten, oneStep, putIn, stepInto}
+use Rattle.tables.specs.declared.choice.Choice.the-variants.{Nothing}
+use Rattle.placements.proofs.Tables.{own-domain, put-none, put-one, set-twice}
+use Rattle.placements.specs.Placing.{filledTable, nothingWritten, oneStep}
 
 -- The block that is chosen is one of the drive's, and Free.
 pub chosen-inside : (t : Table) (n : ℕ) → chosenBlock t ≡ some n → (n < size t) × (isFree (blockAt t n) ≡ true)

@@ -1,11 +1,11 @@
 -- Two steps onwards: what the first leaves for the second, and what both come to.
 use Prim.Native.Nat.{ℕ, _+_, _-_, _≤_, _<_, min}
-use mathlib.Core.Bool.{Bool, true, false, true≢false, cond}
-use mathlib.Core.List.{List, [], _++_}
+use mathlib.Core.Bool.{Bool, true, false, true≢false}
+use mathlib.Core.List.{List}
 use mathlib.Core.Option.{Option, none, some}
 use mathlib.Core.Path.{_≡_, refl, sym, ap, subst, _∙_}
 use native.Mathlib.Omega.{arith}
-use lib.Dec.{eqb, ltb}
+use lib.Dec.{ltb}
 use lib.ListN.{getD, length, length-set, set}
 use lib.Seq.{getD-set-other, getD-set-same}
 use borrow.Author.Tests.{ne-eqb}
@@ -15,20 +15,18 @@ use Rattle.geometry.specs.declared.shape.Adus.{Adus}
 use Rattle.model.specs.Blocks.{closed, opened, writtenOn}
 use Rattle.model.specs.declared.block.Block.{Block}
 use Rattle.model.specs.declared.block.Way.the-variants.{Placement}
-use Rattle.model.specs.declared.table.Domain.{Domain}
 use Rattle.model.specs.declared.table.Table.{Table}
 use Rattle.placements.proofs.Filling.{chosen-inside, no-step, none-step}
 use Rattle.placements.proofs.Stepping.{onwards-no-block, onwards-two, some-adus}
 use Rattle.placements.proofs.Users.{later-fit}
 use Rattle.placements.proofs.Words.{behind, rejoined, rejoined-same, wrote-then}
-use Rattle.placements.specs.Placing.{Chooses, ChoosesFirst, andThen, nothingWritten, oneStep, onwards, stepInto}
+use Rattle.placements.specs.Placing.{Chooses, ChoosesFirst, oneStep, onwards, stepInto}
 use Rattle.rules.proofs.Counting.{by-eq, clash, length-row}
 use Rattle.rules.proofs.Drive.{overwritten-nothing}
 use Rattle.rules.proofs.Effects.{written-length}
 use Rattle.rules.specs.Blocks.{Written, chosenBlock, openedFor, userAddress, userAddresses, writtenInto}
 use Rattle.rules.specs.Drive.{Drive, blockAt, clearBlock, domainAt, isFree, overwritten, size}
 use Rattle.rules.specs.Questions.{userAddressesFit}
-use Rattle.survey.specs.Sight.{SameFree}
 use Rattle.tables.specs.Changes.{chosen}
 use Rattle.tables.specs.Serving.{drive}
 use Rattle.tables.specs.declared.choice.Choice.{Choice}

@@ -1,14 +1,14 @@
 -- A write by placement: into the open block, if there is one, and onwards from the table that this leaves.
-use Prim.Native.Nat.{ℕ, zero, suc, _+_, _-_, _≤_, _<_, min}
-use mathlib.Core.Bool.{Bool, true, false, true≢false, cond}
+use Prim.Native.Nat.{ℕ, zero, suc, _+_, _-_, _<_, min}
+use mathlib.Core.Bool.{true, false, true≢false}
 use mathlib.Core.List.{List, [], _∷_, _++_}
 use mathlib.Core.Option.{Option, none, some}
 use mathlib.Core.Path.{_≡_, refl, sym, ap, subst, _∙_}
 use native.Mathlib.Omega.{arith}
 use lib.Dec.{ltb}
-use lib.ListN.{drop, getD, length, length-set, length-take, set, take, take-append-drop}
+use lib.ListN.{drop, length, length-set, length-take, set, take, take-append-drop}
 use lib.Seq.{getD-set-other, getD-set-same, set-out}
-use borrow.Author.Tests.{le-ltb, lt-ltb, ltb-false, ltb-true, ne-eqb}
+use borrow.Author.Tests.{ltb-false, ltb-true, ne-eqb}
 use Rattle.geometry.proofs.Laws.Shape.{by-test, is-between, limits}
 use Rattle.geometry.specs.Shape.{adus, adusPerBlock, withinLimits}
 use Rattle.geometry.specs.declared.shape.Adus.{Adus}
@@ -23,27 +23,25 @@ use Rattle.placements.proofs.Filling.{chosen-inside, none-inside}
 use Rattle.placements.proofs.Stepping.{placed-both}
 use Rattle.placements.proofs.Tables.{put-config, put-domains, put-none, put-one}
 use Rattle.placements.proofs.Words.{behind, rejoined, wrote-then}
-use Rattle.placements.specs.Placing.{Chooses, ChoosesFirst, MayFill, MayPlace, OpenSeen, Places, andThen, filledTable, intoTable, numberFound, onwards, putIn, roomOf, roomSeen, wentOn}
+use Rattle.placements.specs.Placing.{Chooses, MayFill, MayPlace, Places, andThen, intoTable, numberFound, onwards, putIn, roomOf, roomSeen, wentOn}
 use Rattle.placements.specs.declared.placing.Onwards.{Onwards}
 use Rattle.rules.proofs.Counting.{by-eq, clash, length-row}
 use Rattle.rules.proofs.Drive.{overwritten-nothing}
 use Rattle.rules.proofs.Effects.{written-length}
 use Rattle.rules.specs.Blocks.{Written, chosenBlock, chosenTo, roomIn, userAddress, userAddresses, writtenByPlacement, writtenFirst, writtenInto}
-use Rattle.rules.specs.Drive.{Drive, blockAt, clearBlock, domainAt, isFree, isFreeState, overwritten, size, withBlock, withDomain}
+use Rattle.rules.specs.Drive.{Drive, blockAt, clearBlock, domainAt, isFree, isFreeState, size, withBlock}
 use Rattle.rules.specs.Questions.{userAddressesFit}
 use Rattle.survey.proofs.Choices.{chosen-alike}
-use Rattle.survey.proofs.Seeing.{all-present}
-use Rattle.survey.specs.Sight.{SameFree, foundIn}
+use Rattle.survey.specs.Sight.{foundIn}
 use Rattle.survey.specs.declared.sight.Found.{Found}
 use Rattle.survey.specs.declared.sight.Found.the-variants as found
 use Rattle.survey.specs.declared.sight.Sight.{Sight}
 use Rattle.tables.specs.Changes.{chosen}
-use Rattle.tables.specs.Changing.{changedBlocks, changedBy, changedDomains, noBlock, presentBlocks}
+use Rattle.tables.specs.Changing.{changedBlocks, changedBy, changedDomains, noBlock}
 use Rattle.tables.specs.Serving.{drive}
 use Rattle.tables.specs.declared.change.Change.{Change}
 use Rattle.tables.specs.declared.choice.Choice.{Choice}
-use Rattle.tables.specs.declared.choice.Choice.the-variants.{Block as Chosen}
-use Rattle.transfers.specs.Transfers.{MayWriteIn, Wrote}
+use Rattle.transfers.specs.Transfers.{Wrote}
 
 -- ---- The open block
 

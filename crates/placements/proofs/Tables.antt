@@ -1,21 +1,15 @@
 -- A table with blocks and a domain's record put in it, one after the other.
-use Prim.Native.Nat.{ℕ, zero, suc, _+_, _-_, _≤_, _<_}
-use mathlib.Core.Bool.{Bool, true, false, true≢false, cond}
-use mathlib.Core.List.{List, [], _∷_, _++_}
-use mathlib.Core.Option.{Option, none, some}
-use mathlib.Core.Path.{_≡_, refl, sym, ap, subst, _∙_}
-use native.Mathlib.Omega.{arith}
+use Prim.Native.Nat.{ℕ, zero, suc, _-_, _≤_, _<_}
+use mathlib.Core.List.{List, [], _∷_}
+use mathlib.Core.Path.{_≡_, refl, ap}
 use lib.Dec.{ltb}
-use lib.ListN.{getD, length, set, take}
-use lib.Seq.{getD-set-other, getD-set-same}
-use borrow.Author.Tests.{le-ltb, lt-ltb, ltb-true}
+use lib.ListN.{getD, set}
+use borrow.Author.Tests.{le-ltb, lt-ltb}
 use Rattle.geometry.proofs.Laws.Shape.{by-test}
 use Rattle.model.specs.declared.block.Block.{Block}
 use Rattle.model.specs.declared.table.Domain.{Domain}
 use Rattle.model.specs.declared.table.Table.{Table}
-use Rattle.rules.specs.Blocks.{chosenBlock}
-use Rattle.rules.specs.Drive.{blockAt, clearBlock, clearDomain, domainAt, isFree, size, withBlock, withDomain}
-use Rattle.survey.specs.Sight.{SameFree}
+use Rattle.rules.specs.Drive.{clearDomain, domainAt, size, withBlock, withDomain}
 use Rattle.placements.specs.Placing.{filledTable, putIn}
 
 -- Setting an entry to what it is changes nothing, and setting it twice is setting it once.
@@ -49,16 +43,6 @@ put-config t n b = by-test (ltb n (size t)) (λ e. rw e) (λ e. rw e)
 pub put-domains : (t : Table) (n : ℕ) (b : Block) → putIn n b t .domains ≡ t .domains
 unfolding putIn
 put-domains t n b = by-test (ltb n (size t)) (λ e. rw e) (λ e. rw e)
-
--- The block that is put, and the others.
-pub put-same : (t : Table) (n : ℕ) (b : Block) → n < size t → size t ≤ length (t .blocks) → blockAt (putIn n b t) n ≡ b
-put-same t n b l whole = ap (λ (u : Table). blockAt u n) (put-one t n b l) ∙ getD-set-same (t .blocks) n b clearBlock (omega (arith, l, whole))
-
-pub put-other : (t : Table) (n m : ℕ) (b : Block) → ¬ (m ≡ n) → blockAt (putIn n b t) m ≡ blockAt t m
-unfolding putIn
-put-other t n m b ne = by-test (ltb n (size t))
-    (λ e. rw e (getD-set-other (t .blocks) n m b clearBlock ne))
-    (λ e. rw e)
 
 -- The domain's record twice.
 pub domain-twice : (t : Table) (d n : ℕ) (b : Block) (r s : Domain) → filledTable d n b s (withDomain d r t) ≡ filledTable d n b s t

@@ -1,11 +1,10 @@
 -- Two writes, one behind the other: the words that the second is lent are those behind the first's.
-use Prim.Native.Nat.{ℕ, _+_, _-_, _≤_}
+use Prim.Native.Nat.{ℕ, _+_, _-_}
 use mathlib.Core.List.{List, _++_, append-assoc, append-nil}
 use mathlib.Core.Path.{_≡_, sym, ap, subst, _∙_}
 use native.Mathlib.Omega.{arith}
 use lib.ListN.{drop, drop-of-length-le, length, length-append, length-drop, take, take-append-drop}
 use lib.Seq.{drop-append-seam, drop-drop, take-all, take-append-seam}
-use Rattle.rules.proofs.Store.{length-overwritten}
 use Rattle.rules.specs.Blocks.{Written}
 use Rattle.rules.specs.Drive.{Drive, overwritten}
 use Rattle.placements.specs.Placing.{andThen}
@@ -47,15 +46,7 @@ behind-long k row = ap (λ (r : List ℕ). length r) (behind-all k row) ∙ leng
 pub rejoined-same : (k : ℕ) (row : List ℕ) → rejoined k row (behind k row) ≡ row
 rejoined-same k row = rejoined-all k row (behind k row) ∙ ap (λ (part : List ℕ). take k row ++ part) (behind-all k row) ∙ take-append-drop k row
 
--- There are enough of them, ..
-pub enough-words : (these words filled : List ℕ) (count k : ℕ) → filled ≡ overwritten 0 these words → length these ≡ k
-    → k ≤ count → count ≤ length words → count - k ≤ length (behind k filled)
-enough-words these words filled count k e long few enough =
-    let same : length filled ≡ length words =
-    ap (length {A = ℕ}) e ∙ length-overwritten 0 these words (omega (arith, long, few, enough)) in
-    rw (behind-all k filled, length-drop k filled) (omega (arith, same, enough))
-
--- .. and a write, and then another into them, is both.
+-- A write, and then another into them, is both.
 pub wrote-then : (first rest : Written) (words filled : List ℕ) (k : ℕ) (r : Drive) (part : List ℕ)
     → filled ≡ overwritten 0 (first .addresses) words → length (first .addresses) ≡ k
     → Wrote rest (behind k filled) r part → Wrote (andThen first rest) words r (rejoined k filled part)

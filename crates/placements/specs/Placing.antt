@@ -1,7 +1,7 @@
 -- How a write by placement goes on from block to block.
 use Prim.Native.Nat.{ℕ, _+_, _-_, _/_, _≤_, _<_, min}
-use mathlib.Core.Bool.{Bool, true, false, cond}
-use mathlib.Core.List.{List, [], _++_}
+use mathlib.Core.Bool.{true, false, cond}
+use mathlib.Core.List.{[], _++_}
 use mathlib.Core.Option.{Option, none, some}
 use mathlib.Core.Path.{_≡_}
 use lib.Dec.{eqb, ltb}
@@ -14,7 +14,7 @@ use Rattle.model.specs.declared.block.Block.{Block}
 use Rattle.model.specs.declared.block.Way.the-variants.{Placement}
 use Rattle.model.specs.declared.table.Domain.{Domain}
 use Rattle.model.specs.declared.table.Table.{Table}
-use Rattle.rules.specs.Blocks.{Written, chosenBlock, newBlocks, openedFor, roomIn, userAddress, userAddresses, writtenFirst, writtenInto, writtenOnwards}
+use Rattle.rules.specs.Blocks.{Written, chosenBlock, openedFor, userAddresses, writtenInto, writtenOnwards}
 use Rattle.rules.specs.Drive.{Drive, blockAt, domainAt, isFree, openBlock, size, withBlock, withDomain}
 use Rattle.placements.specs.declared.placing.Filled.{Filled}
 use Rattle.placements.specs.declared.placing.Onwards.{Onwards}

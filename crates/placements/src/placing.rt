@@ -161,6 +161,47 @@ fn go_onwards(
     }
 }
 
+// The same; mostly there is nothing left to write.
+fn go_on(
+    config: Config,
+    owner: Domain,
+    domain: u64,
+    placement: u8,
+    first: Choice,
+    second: Choice,
+    start: u64,
+    count: Adus,
+    store: &mut [u64],
+    words: &mut [u64],
+) -> Onwards
+    requires { ⌜ MayGoOn config (length (now store)) owner domain (count .0) ⌝ }
+    requires { ⌜ userAddressesFit start (count .0) ≡ true ⌝ }
+    requires { ⌜ count .0 ≤ length (now words) ⌝ }
+    ensures { λ r. ⌜ ((t : Table) → t .config ≡ config → domainAt t domain ≡ owner → Chooses t domain first second → Wrote (onwards domain placement start (count .0) (drive t (now (store .entry)))) (now (words .entry)) (drive (wentOn domain r t) (now (store .exit))) (now (words .exit))) ⌝ }
+{
+    if count.0 == 0 {
+        return Onwards {
+            first: NO_BLOCK,
+            one: clear_block(),
+            second: NO_BLOCK,
+            two: clear_block(),
+            owner,
+        };
+    }
+    go_onwards(
+        config,
+        owner,
+        domain,
+        placement,
+        first,
+        second,
+        start,
+        count,
+        store,
+        words,
+    )
+}
+
 // Into the placement's open block, if it has one: its record afterwards.
 fn into_open(
     sight: Sight,
@@ -220,7 +261,7 @@ pub(crate) fn placed(
     let rest = without(count, put);
     let next = user_address(start, put.0);
     let done = put.0 as usize;
-    let on = go_onwards(
+    let on = go_on(
         config,
         owner,
         domain,

@@ -106,10 +106,10 @@ pub(crate) fn serial_key(holder: u8, serial: u32) -> usize
 pub(crate) fn domain_sound(domain: Domain, blocks: u64, held: u64, opened: u64) -> bool
     ensures { λ r. ⌜ r ≡ domainSound domain blocks held opened ⌝ }
 {
-    let quota = domain.quota as u64;
-    let counts = (domain.reserved <= domain.quota) & (quota <= blocks) & (held <= quota);
     let placements = domain.placements as u32;
     if domain.exists {
+        let quota = domain.quota as u64;
+        let counts = (domain.reserved <= domain.quota) & (quota <= blocks) & (held <= quota);
         let limits = ((1 <= placements) & (placements <= 16))
             & ((placements <= domain.limit) & (domain.limit <= 256))
             & (opened <= domain.limit as u64);
@@ -120,7 +120,7 @@ pub(crate) fn domain_sound(domain: Domain, blocks: u64, held: u64, opened: u64) 
         & (placements == 0)
         & (domain.limit == 0)
         & (domain.last == 0);
-    counts & clear
+    (held == 0) & clear
 }
 
 pub(crate) fn larger(a: u64, b: u64) -> u64

@@ -22,7 +22,7 @@ use Rattle.model.specs.declared.command.Command.the-variants.{ChangeCapacity, C
 use Rattle.model.specs.declared.command.Command.the-variants.{WriteByBlock, WriteByPlacement}
 use Rattle.model.specs.declared.table.Table.{Table}
 use Rattle.rules.proofs.Drive.{overwritten-nothing}
-use Rattle.rules.proofs.Questions.{all-positive, holdsAt, in-order, yes-at}
+use Rattle.rules.proofs.Questions.{all-positive, in-order}
 use Rattle.rules.specs.Drive.{Drive, overwritten}
 use Rattle.rules.specs.Effects.{Effect, Fills, Served, Serves, accepted, changing, driveAfter, effect, lengthsOf, verdict, wordsFilled}
 use Rattle.rules.specs.Questions.{Lengths, questions}
@@ -146,12 +146,6 @@ pub second-part : (v : Drive) (lent : Lengths) (c : Command) (k : ℕ) → first
 unfolding thenNumber
 second-part v lent c k e =
     two-parts v lent c k ∙ ap (λ (n : ℕ). thenNumber n (firstNo (drop k (drop 1 (questions v lent c))))) e
-
--- Without a no in the first part, each of its questions is answered yes.
-pub part-yes : (v : Drive) (lent : Lengths) (c : Command) (k i : ℕ) → firstNo (take k (drop 1 (questions v lent c))) ≡ 0
-    → holdsAt i (take k (drop 1 (questions v lent c))) ≡ true
-part-yes v lent c k i e =
-    let qs = drop 1 (questions v lent c) in yes-at i (take k qs) (positive-take k qs (rest-positive v lent c)) e
 
 -- ---- What a call hands back
 

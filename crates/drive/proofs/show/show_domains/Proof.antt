@@ -1,8 +1,6 @@
 -- From domain 16 down to 1.
 use Prim.Native.Nat.{_-_, _≤_}
-use mathlib.Core.Path.{_≡_}
 use native.Mathlib.Omega.{arith}
-use lib.ListN.{length}
 use borrow.Author.Needs.{needs}
 use Rattle.drive.proofs.show.show_domains.Statement.{statement}
 use Rattle.drive.proofs.show.show_domains.Tie as tie

@@ -20,14 +20,6 @@ use Rattle.tables.specs.Serving.{drive}
 use borrow.Author.Needs.{needs}
 use Rattle.placements.proofs.placing.fill_chosen.Statement.{statement}
 use Rattle.placements.proofs.placing.fill_chosen.Tie as tie
-use Rattle.placements.proofs.placing.fill_chosen.Reads as reads
-use Rattle.placements.proofs.placing.fill_chosen.Lts as lts
-use Rattle.geometry.proofs.adus_per_block.Reads as adus-per-block-reads
-use Rattle.placements.proofs.room.smaller.Reads as smaller-reads
-use Rattle.blocks.proofs.free_block.Reads as free-block-reads
-use Rattle.blocks.proofs.opened_for.Reads as opened-for-reads
-use Rattle.tables.proofs.clear_block.Reads as clear-block-reads
-use Rattle.transfers.proofs.written_into.Reads as written-into-reads
 
 clear-block-requires : tie.Need-clear-block-requires
 clear-block-requires c κs = search needs

@@ -18,13 +18,6 @@ use Rattle.transfers.specs.Transfers.{Wrote}
 use borrow.Author.Needs.{needs}
 use Rattle.placements.proofs.placing.go_onwards.Statement.{statement}
 use Rattle.placements.proofs.placing.go_onwards.Tie as tie
-use Rattle.placements.proofs.placing.go_onwards.Reads as reads
-use Rattle.placements.proofs.placing.go_onwards.Lts as lts
-use Rattle.buffers.proofs.user_address.Reads as user-address-reads
-use Rattle.geometry.proofs.adus_per_block.Reads as adus-per-block-reads
-use Rattle.placements.proofs.placing.fill_chosen.Reads as fill-chosen-reads
-use Rattle.placements.proofs.room.smaller.Reads as smaller-reads
-use Rattle.placements.proofs.room.without.Reads as without-reads
 
 fill-chosen-requires : tie.Need-fill-chosen-requires
 fill-chosen-requires c κs = search needs

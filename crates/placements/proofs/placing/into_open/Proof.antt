@@ -6,10 +6,6 @@ use Rattle.rules.specs.Blocks.{userAddresses}
 use Rattle.survey.specs.Sight.{foundIn}
 use Rattle.placements.proofs.placing.into_open.Statement.{statement}
 use Rattle.placements.proofs.placing.into_open.Tie as tie
-use Rattle.placements.proofs.placing.into_open.Reads as reads
-use Rattle.placements.proofs.placing.into_open.Lts as lts
-use Rattle.tables.proofs.clear_block.Reads as clear-block-reads
-use Rattle.transfers.proofs.written_into.Reads as written-into-reads
 
 enum-told : tie.Need-enum-told
 enum-told c = search needs

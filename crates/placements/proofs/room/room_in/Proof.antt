@@ -1,10 +1,6 @@
 use borrow.Author.Needs.{needs}
 use Rattle.placements.proofs.room.room_in.Statement.{statement}
 use Rattle.placements.proofs.room.room_in.Tie as tie
-use Rattle.placements.proofs.room.room_in.Reads as reads
-use Rattle.placements.proofs.room.room_in.Lts as lts
-use Rattle.geometry.proofs.adus_per_block.Reads as adus-per-block-reads
-use Rattle.placements.proofs.room.without.Reads as without-reads
 
 enum-told : tie.Need-enum-told
 enum-told c = search needs

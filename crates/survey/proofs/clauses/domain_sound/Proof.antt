@@ -1,10 +1,14 @@
--- A domain that exists keeps its limits, and one that does not is clear.
+-- A domain that exists keeps its limits; one that does not is clear, and so is its quota: it may hold no block.
 use Prim.Native.Nat.{ℕ}
 use mathlib.Core.Bool.{Bool, true, false, _&&_, and-true}
-use mathlib.Core.Path.{_≡_, sym}
+use mathlib.Core.Path.{_≡_, refl, sym, ap, _∙_}
+use native.Mathlib.Omega.{arith}
 use lib.Dec.{eqb, leb}
+use borrow.Author.Tests.{eq-eqb, eqb-true, le-leb, lt-leb, ne-eqb}
+use Rattle.geometry.proofs.Laws.Shape.{both, by-test}
 use Rattle.geometry.specs.Shape.{between}
 use Rattle.model.specs.declared.table.Domain.{Domain}
+use Rattle.rules.proofs.Counting.{by-eq}
 use Rattle.survey.specs.Clauses.{domainSound}
 use borrow.Author.Needs.{needs}
 use Rattle.survey.proofs.clauses.domain_sound.Statement.{statement}
@@ -18,26 +22,45 @@ of-existing : (r : Domain) (blocks held opened : ℕ) → r .exists ≡ true
 unfolding domainSound
 of-existing r blocks held opened e = rw e (and-true _)
 
-of-missing : (r : Domain) (blocks held opened : ℕ) → r .exists ≡ false
-    → domainSound r blocks held opened
-    ≡ counts r blocks held && (eqb (r .reserved) 0 && eqb (r .quota) 0 && eqb (r .placements) 0 && eqb (r .limit) 0 && eqb (r .last) 0)
-unfolding domainSound
-of-missing r blocks held opened e = rw (e, and-true)
+abbrev clear : Domain → Bool
+clear r = eqb (r .reserved) 0 && eqb (r .quota) 0 && eqb (r .placements) 0 && eqb (r .limit) 0 && eqb (r .last) 0
 
-cast-quota : tie.Need-cast-quota
-cast-quota c = search needs
+-- Counts of a clear record are kept where no block is held.
+none-held : (reserved quota blocks held : ℕ) → reserved ≡ 0 → quota ≡ 0 → leb reserved quota && leb quota blocks && leb held quota ≡ eqb held 0
+none-held reserved quota blocks held e f =
+    rw (e, f, le-leb 0 blocks (omega arith)) (by-eq held 0
+    (λ p. rw (eq-eqb held 0 p, le-leb held 0 (omega (arith, p))))
+    (λ p. rw (ne-eqb held 0 p, lt-leb held 0 (omega arith))))
+
+of-missing : (r : Domain) (blocks held opened : ℕ) → r .exists ≡ false → domainSound r blocks held opened ≡ eqb held 0 && clear r
+unfolding domainSound
+of-missing r blocks held opened e = rw (e, and-true) (by-test (clear r)
+    (λ q.
+    let q4 = both _ (eqb (r .last) 0) q in
+    let q3 = both _ (eqb (r .limit) 0) (q4 .0) in
+    let q2 = both _ (eqb (r .placements) 0) (q3 .0) in
+    let q1 = both (eqb (r .reserved) 0) (eqb (r .quota) 0) (q2 .0) in
+    ap (λ (c : Bool). c && clear r) (none-held (r .reserved) (r .quota) blocks held (eqb-true (r .reserved) 0 (q1 .0)) (eqb-true (r .quota) 0 (q1 .1))))
+    (λ q. ap (λ (c : Bool). counts r blocks held && c) q ∙ off (counts r blocks held) ∙ sym (ap (λ (c : Bool). eqb held 0 && c) q ∙ off (eqb held 0))))
+  where
+    off : (c : Bool) → c && false ≡ false
+    off true = refl
+    off false = refl
 
 cast-placements : tie.Need-cast-placements
 cast-placements c = search needs
+
+cast-quota : tie.Need-cast-quota
+cast-quota c = search needs
 
 cast-limits : tie.Need-cast-limits
 cast-limits c = search needs
 
 returns : tie.Need-returns
-returns c = let z = c .before .before .before .before .before .before .before .args in sym (of-existing (z .domain) (z .blocks) (z .held) (z .opened) (c .before .before .before .if1 .taken))
+returns c = let z = c .before .before .before .before .before .before .before .args in sym (of-existing (z .domain) (z .blocks) (z .held) (z .opened) (c .before .before .before .before .before .if1 .taken))
 
 returns-2 : tie.Need-returns-2
-returns-2 c = let z = c .before .before .before .before .before .before .before .before .args in sym (of-missing (z .domain) (z .blocks) (z .held) (z .opened) (c .before .before .before .before .if1 .left))
+returns-2 c = let z = c .before .before .before .before .before .before .args in sym (of-missing (z .domain) (z .blocks) (z .held) (z .opened) (c .before .before .before .before .if1 .left))
 
 pub domain-sound-spec : {M : Type 1} → statement M
-domain-sound-spec = tie.close (tie.spec cast-quota cast-placements cast-limits returns returns-2)
+domain-sound-spec = tie.close (tie.spec cast-placements cast-quota cast-limits returns returns-2)

@@ -1,9 +1,6 @@
 use borrow.Author.Needs.{needs}
 use Rattle.tables.proofs.change.domain_change.Statement.{statement}
 use Rattle.tables.proofs.change.domain_change.Tie as tie
-use Rattle.tables.proofs.change.domain_change.Reads as reads
-use Rattle.tables.proofs.change.domain_change.Lts as lts
-use Rattle.tables.proofs.change.nothing.Reads as nothing-reads
 
 nothing-requires : tie.Need-nothing-requires
 nothing-requires c κs = search needs

@@ -1,10 +1,6 @@
 use borrow.Author.Needs.{needs}
 use Rattle.tables.proofs.change.nothing.Statement.{statement}
 use Rattle.tables.proofs.change.nothing.Tie as tie
-use Rattle.tables.proofs.change.nothing.Reads as reads
-use Rattle.tables.proofs.change.nothing.Lts as lts
-use Rattle.tables.proofs.records.clear_block.Reads as clear-block-reads
-use Rattle.tables.proofs.records.clear_domain.Reads as clear-domain-reads
 
 clear-block-requires : tie.Need-clear-block-requires
 clear-block-requires c κs = search needs

@@ -1,9 +1,6 @@
 use borrow.Author.Needs.{needs}
 use Rattle.tables.proofs.change.opening_change.Statement.{statement}
 use Rattle.tables.proofs.change.opening_change.Tie as tie
-use Rattle.tables.proofs.change.opening_change.Reads as reads
-use Rattle.tables.proofs.change.opening_change.Lts as lts
-use Rattle.tables.proofs.change.block_change.Reads as block-change-reads
 
 block-change-requires : tie.Need-block-change-requires
 block-change-requires c κs = search needs

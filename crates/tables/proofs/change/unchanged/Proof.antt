@@ -1,9 +1,6 @@
 use borrow.Author.Needs.{needs}
 use Rattle.tables.proofs.change.unchanged.Statement.{statement}
 use Rattle.tables.proofs.change.unchanged.Tie as tie
-use Rattle.tables.proofs.change.unchanged.Reads as reads
-use Rattle.tables.proofs.change.unchanged.Lts as lts
-use Rattle.tables.proofs.change.nothing.Reads as nothing-reads
 
 nothing-requires : tie.Need-nothing-requires
 nothing-requires c κs = search needs

@@ -1,0 +1,2 @@
+-- What the walks share, here and in the crates that see this one.
+pub mod Mapping
