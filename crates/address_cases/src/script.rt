@@ -24,6 +24,7 @@ use crate::calls::Given;
 use crate::calls::called;
 use crate::tokens::line_of;
 use geometry::Config;
+use geometry::no_config;
 use libc::STDIN_FILENO;
 use libc::STDOUT_FILENO;
 use script_lines::line_end;
@@ -97,15 +98,7 @@ fn step(config: Config, text: &[u8]) -> Config {
 fn lines(text: &[u8])
     requires { ⌜ length (now text) ≤ 65536 ⌝ }
 {
-    let mut config = Config {
-        pages: 0,
-        dies: 0,
-        planes: 0,
-        adus: 0,
-        blocks: 0,
-        rated: 0,
-        period: 0,
-    };
+    let mut config = no_config();
     let mut at = 0;
     while at < text.len() {
         let end = line_end(text, at);

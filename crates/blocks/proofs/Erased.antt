@@ -5,11 +5,10 @@ use mathlib.Core.List.{List, [], _++_}
 use mathlib.Core.Option.{Option, none, some}
 use mathlib.Core.Path.{_≡_, refl, sym, ap, subst, _∙_}
 use lib.Dec.{eqb}
-use lib.ListN.{drop}
 use borrow.Author.Tests.{eqb-true, leb-true, ltb-true}
 use Rattle.blocks.proofs.Chosen.{chosen-inside, chosen-record}
 use Rattle.blocks.specs.Erasing.{blockQuestions, eraseArguments, eraseState, erasedFirst, erasedOf}
-use Rattle.blocks.specs.Opening.{MayOpenIn, freeBlock}
+use Rattle.blocks.specs.Opening.{MayOpenIn}
 use Rattle.blocks.specs.declared.erasing.Erased.{Erased}
 use Rattle.blocks.specs.declared.erasing.Erased.the-variants as erased
 use Rattle.geometry.proofs.Laws.Questions.{positive}
@@ -18,6 +17,7 @@ use Rattle.geometry.specs.Address.{isBlock, isDomainId}
 use Rattle.geometry.specs.Questions.{firstNo, success}
 use Rattle.geometry.specs.Shape.{storeLength}
 use Rattle.model.specs.Answers.{outcomeOf}
+use Rattle.model.specs.Blocks.{freeBlock}
 use Rattle.model.specs.declared.answer.Answer.{Answer}
 use Rattle.model.specs.declared.answer.Answer.the-variants as given
 use Rattle.model.specs.declared.block.Block.{Block}
@@ -27,10 +27,11 @@ use Rattle.model.specs.declared.table.Domain.{Domain}
 use Rattle.model.specs.declared.table.Table.{Table}
 use Rattle.rules.proofs.Counting.{the-first}
 use Rattle.rules.proofs.Drive.{overwritten-nothing}
-use Rattle.rules.proofs.Questions.{yes-at}
+use Rattle.rules.proofs.Questions.{after, yes-in}
 use Rattle.rules.specs.Blocks.{anyBlock, chosenBlock, erasedBlock, openedFor}
+use Rattle.rules.specs.Calls.{calling, lending}
 use Rattle.rules.specs.Drive.{Drive, blockAt, domainAt, overwritten, size, withBlock, withDomain}
-use Rattle.rules.specs.Effects.{Effect, Serves, effect, erasing, lengthsOf}
+use Rattle.rules.specs.Effects.{Effect, Serves, effect, erasing}
 use Rattle.rules.specs.Questions.{isErasable, questions}
 use Rattle.rules.specs.Soundness.{sound}
 use Rattle.survey.proofs.Seeing.{changed-nothing, changed-opening, limits-seen, sound-limits}
@@ -39,8 +40,7 @@ use Rattle.survey.specs.declared.sight.Sight.{Sight}
 use Rattle.tables.proofs.Answering.{accepted-call, sound-verdict}
 use Rattle.tables.specs.Changes.{ErasesKnown, chosen}
 use Rattle.tables.specs.Changing.{leaving, openingChange, outcomeServed}
-use Rattle.tables.specs.Serving.{answering, drive, served}
-use Rattle.tables.specs.Verdicts.{lending}
+use Rattle.tables.specs.Serving.{ServesCommand, answering, drive, served}
 use Rattle.tables.specs.declared.choice.Choice.{Choice}
 use Rattle.tables.specs.declared.choice.Choice.the-variants as choice
 
@@ -49,7 +49,7 @@ use Rattle.tables.specs.declared.choice.Choice.the-variants as choice
 -- The record that is seen is asked for no block but one that is named, and for none of another drive: the range comes first.
 pub erase-asked : (t : Table) (store : List ℕ) (entries words bytes d n : ℕ) (x : Sight) → Sees t d x → SeesBlock t n x → x .sound ≡ true
     → firstNo (eraseArguments x entries d n ++ eraseState t x d n)
-    ≡ firstNo (drop 1 (questions (drive t store) (lending entries words bytes) (Erase d n)))
+    ≡ firstNo (after 2 (questions (drive t store) (lending (Erase d n) entries words bytes)))
 unfolding firstNo questions eraseArguments eraseState blockQuestions
 erase-asked t store entries words bytes d n x s b e =
     rw (s .same-domain, s .same-config) (by-test (isDomainId d)
@@ -101,7 +101,7 @@ opens-inside t n m range e =
 pub erase-range : (t : Table) (entries d n : ℕ) (x : Sight) → Sees t d x
     → firstNo (eraseArguments x entries d n ++ eraseState t x d n) ≡ 0 → isErasable t n ≡ true
 unfolding positive eraseArguments eraseState blockQuestions
-erase-range t entries d n x s pass = rw (s .same-config) at (yes-at 3 (eraseArguments x entries d n ++ eraseState t x d n) refl pass)
+erase-range t entries d n x s pass = rw (s .same-config) at (yes-in 6 (eraseArguments x entries d n ++ eraseState t x d n) refl pass)
 
 -- Questions 3, 4, 6 and 12 of a sound table let it be opened.
 pub may-open : (t : Table) (entries d n m : ℕ) (x : Sight) → Sees t d x → x .sound ≡ true
@@ -112,10 +112,10 @@ may-open t entries d n m x s e pass found =
     let qs = eraseArguments x entries d n ++ eraseState t x d n in
     record {
       limits = limits-seen t d x s e;
-      id = yes-at 1 qs refl pass;
+      id = yes-in 4 qs refl pass;
       inside = rw (s .same-config) (opens-inside t n m (erase-range t entries d n x s pass) found);
-      entries = eqb-true entries (storeLength (x .config) .0) (yes-at 0 qs refl pass);
-      serial = rw (s .same-domain) (leb-true (domainAt t d .last + 1) 4294967295 (yes-at 7 qs refl pass));
+      entries = eqb-true entries (storeLength (x .config) .0) (yes-in 3 qs refl pass);
+      serial = rw (s .same-domain) (leb-true (domainAt t d .last + 1) 4294967295 (yes-in 12 qs refl pass));
     }
 
 erasing-fills : (d : ℕ) (found : Option ℕ) (v : Drive) → erasing d found v .words ≡ []
@@ -123,14 +123,15 @@ erasing-fills d none v = refl
 erasing-fills d (some n) v = refl
 
 erased-call : (v w : Drive) (words bytes : List ℕ) (d n : ℕ) (found : Option ℕ) (answer : Answer) → sound (v .table) ≡ true
-    → firstNo (drop 1 (questions v (lengthsOf v words bytes) (Erase d n))) ≡ 0
+    → firstNo (after 2 (questions v (calling (Erase d n) (v .store) words bytes))) ≡ 0
     → erasedBlock (v .table) n ≡ found → outcomeOf answer ≡ success (erasing d found v .values) → w ≡ erasing d found v .drive
-    → Serves v (Erase d n) words bytes (served (answering (w .table) answer) (w .store) words bytes)
+    → Serves v (calling (Erase d n) (v .store) words bytes) words bytes (served (answering (w .table) answer) (w .store) words bytes)
 unfolding effect
 erased-call v w words bytes d n found answer whole pass f says leaves =
-    let does : effect (Erase d n) v ≡ erasing d found v = ap (λ (o : Option ℕ). erasing d o v) f in
-    accepted-call v (Erase d n) words bytes (served (answering (w .table) answer) (w .store) words bytes) []
-    (sound-verdict v (lengthsOf v words bytes) (Erase d n) whole ∙ pass)
+    let call = calling (Erase d n) (v .store) words bytes in
+    let does : effect v call ≡ erasing d found v = ap (λ (o : Option ℕ). erasing d o v) f in
+    accepted-call v call words bytes (served (answering (w .table) answer) (w .store) words bytes) []
+    (sound-verdict v call whole ∙ pass)
     (says ∙ ap (λ (x : Effect). success (x .values)) (sym does))
     (leaves ∙ ap (λ (x : Effect). x .drive) (sym does))
     (sym (overwritten-nothing words) ∙ ap (λ (filled : List ℕ). overwritten 0 filled words) (sym (ap (λ (x : Effect). x .words) does ∙ erasing-fills d found v)))
@@ -138,18 +139,18 @@ erased-call v w words bytes d n found answer whole pass f says leaves =
     (sym (overwritten-nothing bytes))
 
 -- An accepted Erase hands back the number of the block that it opens.
-pub opened-outcome : (t : Table) (store after words bytes : List ℕ) (d n m : ℕ) (b : Block) (r : Domain) → sound t ≡ true → m < size t
-    → ¬ (d ≡ 0) → firstNo (drop 1 (questions (drive t store) (lengthsOf (drive t store) words bytes) (Erase d n))) ≡ 0
-    → erasedBlock t n ≡ some m → drive (withDomain d r (withBlock m b t)) after ≡ openedFor d way.Erase m (drive t store)
-    → Serves (drive t store) (Erase d n) words bytes
-    (served (outcomeServed t (record { answer = given.Block m; change = openingChange m b d r })) after words bytes)
-opened-outcome t store after words bytes d n m b r whole l positive-id pass found is =
+pub opened-outcome : (t : Table) (store left words bytes : List ℕ) (d n m : ℕ) (b : Block) (r : Domain) → sound t ≡ true → m < size t
+    → ¬ (d ≡ 0) → firstNo (after 2 (questions (drive t store) (calling (Erase d n) store words bytes))) ≡ 0
+    → erasedBlock t n ≡ some m → drive (withDomain d r (withBlock m b t)) left ≡ openedFor d way.Erase m (drive t store)
+    → ServesCommand t (Erase d n) store words bytes
+    (served (outcomeServed t (record { answer = given.Block m; change = openingChange m b d r })) left words bytes)
+opened-outcome t store left words bytes d n m b r whole l positive-id pass found is =
     rw (changed-opening t m b d r (sound-limits t whole) l positive-id)
-    (erased-call (drive t store) (drive (withDomain d r (withBlock m b t)) after) words bytes d n (some m) (given.Block m) whole pass found refl is)
+    (erased-call (drive t store) (drive (withDomain d r (withBlock m b t)) left) words bytes d n (some m) (given.Block m) whole pass found refl is)
 
 -- Where none is found, the rules open none. (But the coverage rule leaves one, `erase-finds-free`.)
 pub none-outcome : (t : Table) (store words bytes : List ℕ) (d n : ℕ) → sound t ≡ true
-    → firstNo (drop 1 (questions (drive t store) (lengthsOf (drive t store) words bytes) (Erase d n))) ≡ 0 → erasedBlock t n ≡ none
-    → Serves (drive t store) (Erase d n) words bytes (served (outcomeServed t (leaving given.Done)) store words bytes)
+    → firstNo (after 2 (questions (drive t store) (calling (Erase d n) store words bytes))) ≡ 0 → erasedBlock t n ≡ none
+    → ServesCommand t (Erase d n) store words bytes (served (outcomeServed t (leaving given.Done)) store words bytes)
 none-outcome t store words bytes d n whole pass found =
     rw (changed-nothing t) (erased-call (drive t store) (drive t store) words bytes d n none given.Done whole pass found refl refl)

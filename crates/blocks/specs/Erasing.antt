@@ -3,12 +3,12 @@ use Prim.Native.Nat.{ℕ}
 use mathlib.Core.Bool.{Bool, not, _&&_, _||_, cond}
 use mathlib.Core.List.{List, [], _∷_, _++_}
 use lib.Dec.{eqb, ltb}
-use Rattle.blocks.specs.Opening.{freeBlock}
 use Rattle.blocks.specs.declared.erasing.Erased.{Erased}
 use Rattle.blocks.specs.declared.erasing.Erased.the-variants as erased
 use Rattle.geometry.specs.Address.{isBlock, isDomainId}
 use Rattle.geometry.specs.Questions.{Question, ask}
 use Rattle.geometry.specs.Shape.{storeLength}
+use Rattle.model.specs.Blocks.{freeBlock}
 use Rattle.model.specs.declared.table.Table.{Table}
 use Rattle.rules.specs.Blocks.{anyBlock}
 use Rattle.rules.specs.Counting.{implies}

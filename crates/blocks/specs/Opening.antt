@@ -3,20 +3,14 @@ use Prim.Native.Nat.{ℕ, _+_, _≤_, _<_}
 use mathlib.Core.Bool.{true}
 use mathlib.Core.Path.{_≡_}
 use Rattle.geometry.specs.Address.{isDomainId}
-use Rattle.geometry.specs.Shape.{adus, storeLength, withinLimits}
+use Rattle.geometry.specs.Shape.{storeLength, withinLimits}
 use Rattle.geometry.specs.declared.shape.Config.{Config}
-use Rattle.model.specs.declared.block.Block.{Block}
-use Rattle.model.specs.declared.block.State.the-variants.{Free}
 use Rattle.model.specs.declared.table.Domain.{Domain}
 
 -- What opening block n for the domain d needs, whose record is given, of a drive with so many entries in its store.
-pub record MayOpenIn (c : Config) (length : ℕ) (owner : Domain) (d n : ℕ) : Type 0 where
+pub record MayOpenIn (c : Config) (storeSize : ℕ) (owner : Domain) (d n : ℕ) : Type 0 where
   pub limits : withinLimits c ≡ true
   pub id : isDomainId d ≡ true
   pub inside : n < c .blocks
-  pub entries : length ≡ storeLength c .0
+  pub entries : storeSize ≡ storeLength c .0
   pub serial : owner .last + 1 ≤ 4294967295
-
--- The record of a Free block of a sound table.
-abbrev pub freeBlock : ℕ → Block
-freeBlock erases = record { state = Free; holder = 0; written = adus 0; left = 0; erases = erases; serial = 0 }

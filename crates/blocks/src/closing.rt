@@ -16,10 +16,9 @@ ghost use Rattle.geometry.specs.Questions as question;
 ghost use Rattle.model.specs.declared.command.Command.the-variants.{Close, Free};
 ghost use Rattle.model.specs.declared.table.Table.{Table};
 ghost use Rattle.rules.specs.Drive.{heldBy};
-ghost use Rattle.rules.specs.Effects.{Serves};
 ghost use Rattle.survey.specs.Sight.{Sees, SeesBlock};
 ghost use Rattle.tables.specs.Changing.{outcomeServed};
-ghost use Rattle.tables.specs.Serving.{drive, served};
+ghost use Rattle.tables.specs.Serving.{ServesCommand, served};
 ghost use Rattle.tables.specs.Verdicts.{verdictNumber};
 
 // What Close and Free are asked.
@@ -34,7 +33,7 @@ fn held_block_verdict(sight: Sight, domain: u64, block: u64) -> Verdict
 
 // An open block becomes Closed; a Closed one stays as it is.
 pub fn close(sight: Sight, domain: u64, block: u64) -> Outcome
-    ensures { λ r. ⌜ ((t : Table) (store words bytes : List ℕ) → Sees t domain sight → SeesBlock t block sight → Serves (drive t store) (Close domain block) words bytes (served (outcomeServed t r) store words bytes)) ⌝ }
+    ensures { λ r. ⌜ ((t : Table) (store words bytes : List ℕ) → Sees t domain sight → SeesBlock t block sight → ServesCommand t (Close domain block) store words bytes (served (outcomeServed t r) store words bytes)) ⌝ }
 {
     if !sight.sound {
         return refusal(Refusal::Unsound);
@@ -53,7 +52,7 @@ pub fn close(sight: Sight, domain: u64, block: u64) -> Outcome
 
 // A held block becomes Free; the store keeps its entries.
 pub fn free(sight: Sight, domain: u64, block: u64) -> Outcome
-    ensures { λ r. ⌜ ((t : Table) (store words bytes : List ℕ) → Sees t domain sight → SeesBlock t block sight → Serves (drive t store) (Free domain block) words bytes (served (outcomeServed t r) store words bytes)) ⌝ }
+    ensures { λ r. ⌜ ((t : Table) (store words bytes : List ℕ) → Sees t domain sight → SeesBlock t block sight → ServesCommand t (Free domain block) store words bytes (served (outcomeServed t r) store words bytes)) ⌝ }
 {
     if !sight.sound {
         return refusal(Refusal::Unsound);

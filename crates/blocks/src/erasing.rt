@@ -1,11 +1,11 @@
 // Erase.
-use crate::opening::free_block;
 use crate::opening::new_blocks_verdict;
 use crate::opening::opened_for;
 use model::Answer;
 use model::Block;
 use model::Refusal;
 use model::Way;
+use model::free_block;
 use survey::Sight;
 use survey::store_verdict;
 use tables::Choice;
@@ -29,18 +29,15 @@ ghost use Rattle.geometry.specs.Questions.{firstNo};
 ghost use Rattle.geometry.specs.Shape.{withinLimits};
 ghost use Rattle.model.specs.declared.command.Command.the-variants.{Erase};
 ghost use Rattle.model.specs.declared.table.Table.{Table};
-ghost use Rattle.rules.specs.Effects.{Serves};
 ghost use Rattle.survey.specs.Sight.{Seen, Sees, SeesBlock, SeesChoice};
 ghost use Rattle.tables.specs.Changing.{outcomeServed};
-ghost use Rattle.tables.specs.Serving.{drive, served};
+ghost use Rattle.tables.specs.Serving.{ServesCommand, served};
 ghost use Rattle.tables.specs.Verdicts.{verdictNumber};
 
 // Erase leaves the choice to the manager.
 const ANY_BLOCK: u64 = 0xffff_ffff;
 
-// ---- The questions
-
-// 3 to 6.
+// ---- The questions // (3 asking to) 6.
 fn erase_arguments(sight: Sight, domain: u64, block: u64, entries: usize) -> Verdict
     requires { ⌜ withinLimits (sight .config) ≡ true ⌝ }
     ensures { λ r. ⌜ verdictNumber r ≡ firstNo (eraseArguments sight entries domain block) ⌝ }
@@ -120,7 +117,7 @@ fn erased_block(sight: Sight, block: u64) -> Erased
 // Opens a block with entries of all ones. Where none is found none is opened.
 pub fn erase(sight: Sight, domain: u64, block: u64, store: &mut [u64]) -> Outcome
     requires { ⌜ ((t : Table) × Sees t domain sight × SeesBlock t block sight × SeesChoice t sight) ⌝ }
-    ensures { λ r. ⌜ ((t : Table) (words bytes : List ℕ) → Sees t domain sight → SeesBlock t block sight → SeesChoice t sight → Serves (drive t (now (store .entry))) (Erase domain block) words bytes (served (outcomeServed t r) (now (store .exit)) words bytes)) ⌝ }
+    ensures { λ r. ⌜ ((t : Table) (words bytes : List ℕ) → Sees t domain sight → SeesBlock t block sight → SeesChoice t sight → ServesCommand t (Erase domain block) (now (store .entry)) words bytes (served (outcomeServed t r) (now (store .exit)) words bytes)) ⌝ }
 {
     if !sight.sound {
         return refusal(Refusal::Unsound);

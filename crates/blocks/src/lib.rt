@@ -8,6 +8,5 @@ pub use closing::close;
 pub use closing::free;
 pub use erasing::erase;
 pub use opening::Opened;
-pub use opening::free_block;
 pub use opening::new_blocks_verdict;
 pub use opening::opened_for;

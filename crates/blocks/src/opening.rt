@@ -11,7 +11,6 @@ use survey::Sight;
 use survey::covered_with;
 use tables::Verdict;
 use tables::ask;
-use tables::clear_block;
 use tables::reserved_by;
 use tables::serials_left;
 use tables::within_quota;
@@ -19,7 +18,7 @@ ghost use mathlib.Core.Bool.{true};
 ghost use mathlib.Core.Path.{_≡_};
 ghost use Prim.Native.Nat.{_+_, _≤_};
 ghost use lib.ListN.{length};
-ghost use Rattle.blocks.specs.Opening.{MayOpenIn, freeBlock};
+ghost use Rattle.blocks.specs.Opening.{MayOpenIn};
 ghost use Rattle.geometry.specs.Address.{isDomainId};
 ghost use Rattle.geometry.specs.Questions.{firstNo};
 ghost use Rattle.model.specs.Blocks.{opened};
@@ -59,15 +58,6 @@ fn with_last(domain: Domain, last: u32) -> Domain
     let mut next = domain;
     next.last = last;
     next
-}
-
-// The record of a Free block: all is clear but the P/E count.
-pub fn free_block(erases: u32) -> Block
-    ensures { λ r. ⌜ r ≡ freeBlock erases ⌝ }
-{
-    let mut block = clear_block();
-    block.erases = erases;
-    block
 }
 
 // Block n is opened for the domain, with entries of all ones.

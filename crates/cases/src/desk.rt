@@ -4,6 +4,7 @@ use crate::tokens::Line;
 use crate::tokens::part_at;
 use geometry::Adus;
 use geometry::Config;
+use geometry::no_config;
 use model::Block;
 use model::Domain;
 use model::State;
@@ -17,18 +18,6 @@ pub struct Desk {
     pub entries: usize,
     pub words: usize,
     pub bytes: usize,
-}
-
-pub fn no_config() -> Config {
-    Config {
-        pages: 0,
-        dies: 0,
-        planes: 0,
-        adus: 0,
-        blocks: 0,
-        rated: 0,
-        period: 0,
-    }
 }
 
 // Seven numbers of a line from an index on.

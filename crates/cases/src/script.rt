@@ -34,7 +34,6 @@ use crate::compare::same_row;
 use crate::compare::same_table;
 use crate::desk::Desk;
 use crate::desk::config_of;
-use crate::desk::no_config;
 use crate::desk::set_bytes;
 use crate::desk::set_row;
 use crate::desk::with_block;
@@ -43,15 +42,14 @@ use crate::desk::with_domain;
 use crate::tokens::Line;
 use crate::tokens::line_of;
 use crate::tokens::part_at;
-use geometry::Adus;
 use geometry::Config;
+use geometry::no_config;
 use libc::STDIN_FILENO;
 use libc::STDOUT_FILENO;
-use model::Block;
-use model::Domain;
-use model::State;
 use model::Table;
 use script_lines::line_end;
+use tables::clear_block;
+use tables::clear_domain;
 ghost use Prim.Native.Nat.{_≤_};
 ghost use lib.ListN.{length};
 
@@ -210,23 +208,9 @@ fn told(
 
 // A table with these numbers and nothing else.
 fn table_with(config: Config) -> Table {
-    let domain = Domain {
-        exists: false,
-        reserved: 0,
-        quota: 0,
-        placements: 0,
-        limit: 0,
-        last: 0,
-    };
+    let domain = clear_domain();
     let domains = [domain; 16];
-    let block = Block {
-        state: State::Free,
-        holder: 0,
-        written: Adus(0),
-        left: 0,
-        erases: 0,
-        serial: 0,
-    };
+    let block = clear_block();
     let blocks = [block; 256];
     Table {
         config,

@@ -5,7 +5,6 @@ use mathlib.Core.List.{List, [], _∷_}
 use mathlib.Core.Path.{_≡_, refl, sym, ap, _∙_}
 use native.Mathlib.Omega.{arith}
 use lib.Dec.{leb}
-use lib.ListN.{drop, take}
 use borrow.Author.Tests.{leb-true}
 use Rattle.domains.specs.Reserving.{changeArguments, changedFrom, createArguments, reserved}
 use Rattle.geometry.proofs.Laws.Questions.{positive}
@@ -21,18 +20,19 @@ use Rattle.model.specs.declared.command.Command.{Command}
 use Rattle.model.specs.declared.command.Command.the-variants.{ChangeCapacity, Create}
 use Rattle.model.specs.declared.table.Domain.{Domain}
 use Rattle.model.specs.declared.table.Table.{Table}
-use Rattle.rules.proofs.Questions.{yes-at}
+use Rattle.rules.proofs.Questions.{after, before, from, yes-in}
+use Rattle.rules.specs.Calls.{Call, _asking_, calling, profile}
 use Rattle.rules.specs.Domains.{arePlaneCounts, changedDomain, coveredWith}
 use Rattle.rules.specs.Drive.{heldCount, withDomain}
-use Rattle.rules.specs.Effects.{Fills, Serves, changing, effect, lengthsOf}
-use Rattle.rules.specs.Questions.{Lengths, questions}
+use Rattle.rules.specs.Effects.{Fills, changing, effect}
+use Rattle.rules.specs.Questions.{questions}
 use Rattle.survey.proofs.Outcomes.{changed-outcome, later-outcome}
 use Rattle.survey.proofs.Seeing.{changed-domain}
 use Rattle.survey.specs.Sight.{Sees}
 use Rattle.survey.specs.declared.sight.Sight.{Sight}
 use Rattle.tables.proofs.Answering.{second-part}
 use Rattle.tables.specs.Changing.{domainChange, outcomeServed}
-use Rattle.tables.specs.Serving.{drive, served}
+use Rattle.tables.specs.Serving.{ServesCommand, drive, served}
 
 -- ---- Plane counts
 
@@ -53,27 +53,27 @@ few-both c guarantee quota within e =
 -- ---- What is asked first, and the new record
 
 -- What is asked of what is seen is asked of the table.
-pub create-asked : (t : Table) (d : ℕ) (x : Sight) (guarantee quota : Planes) (placements limit : ℕ) (store : List ℕ) (lent : Lengths) → Sees t d x
+pub create-asked : (t : Table) (d : ℕ) (x : Sight) (guarantee quota : Planes) (placements limit : ℕ) (store : List ℕ) (call : Call) → Sees t d x
     → firstNo (createArguments x d guarantee quota placements limit)
-    ≡ firstNo (take 3 (drop 1 (questions (drive t store) lent (Create d guarantee quota placements limit))))
+    ≡ firstNo (before 14 (after 2 (questions (drive t store) (call asking Create d guarantee quota placements limit))))
 unfolding questions
-create-asked t d x guarantee quota placements limit store lent s = rw (s .same-domain, s .same-config)
+create-asked t d x guarantee quota placements limit store call s = rw (s .same-domain, s .same-config)
 
-pub change-asked : (t : Table) (d : ℕ) (x : Sight) (guarantee quota : Planes) (store : List ℕ) (lent : Lengths) → Sees t d x
+pub change-asked : (t : Table) (d : ℕ) (x : Sight) (guarantee quota : Planes) (store : List ℕ) (call : Call) → Sees t d x
     → firstNo (changeArguments x d guarantee quota)
-    ≡ firstNo (take 3 (drop 1 (questions (drive t store) lent (ChangeCapacity d guarantee quota))))
+    ≡ firstNo (before 14 (after 2 (questions (drive t store) (call asking ChangeCapacity d guarantee quota))))
 unfolding questions
-change-asked t d x guarantee quota store lent s = rw (s .same-domain, s .same-config)
+change-asked t d x guarantee quota store call s = rw (s .same-domain, s .same-config)
 
 -- Where they are answered yes: the ID is a domain's, ..
 pub create-id : (x : Sight) (d : ℕ) (guarantee quota : Planes) (placements limit : ℕ)
     → firstNo (createArguments x d guarantee quota placements limit) ≡ 0 → isDomainId d ≡ true
 unfolding positive
-create-id x d guarantee quota placements limit e = yes-at 0 (createArguments x d guarantee quota placements limit) refl e
+create-id x d guarantee quota placements limit e = yes-in 4 (createArguments x d guarantee quota placements limit) refl e
 
 pub change-id : (x : Sight) (d : ℕ) (guarantee quota : Planes) → firstNo (changeArguments x d guarantee quota) ≡ 0 → isDomainId d ≡ true
 unfolding positive
-change-id x d guarantee quota e = yes-at 0 (changeArguments x d guarantee quota) refl e
+change-id x d guarantee quota e = yes-in 4 (changeArguments x d guarantee quota) refl e
 
 -- .. and the numbers are in range.
 pub create-range : (x : Sight) (d : ℕ) (guarantee quota : Planes) (placements limit : ℕ)
@@ -83,14 +83,14 @@ unfolding positive
 create-range x d guarantee quota placements limit e =
     let counts = arePlaneCounts (x .config) guarantee quota in
     let placed = between 1 16 placements in
-    let h = both (counts && placed) (between 0 256 limit) (yes-at 2 (createArguments x d guarantee quota placements limit) refl e) in
+    let h = both (counts && placed) (between 0 256 limit) (yes-in 6 (createArguments x d guarantee quota placements limit) refl e) in
     let k = both counts placed (h .0) in
     (k .0, (is-between 1 16 placements (k .1) .most, is-between 0 256 limit (h .1) .most))
 
 pub change-range : (x : Sight) (d : ℕ) (guarantee quota : Planes) → firstNo (changeArguments x d guarantee quota) ≡ 0
     → arePlaneCounts (x .config) guarantee quota ≡ true
 unfolding positive
-change-range x d guarantee quota e = yes-at 2 (changeArguments x d guarantee quota) refl e
+change-range x d guarantee quota e = yes-in 6 (changeArguments x d guarantee quota) refl e
 
 -- The new record is the rules'.
 pub changed-seen : (t : Table) (d : ℕ) (x : Sight) (guarantee quota : Planes) → Sees t d x → x .sound ≡ true → isDomainId d ≡ true
@@ -105,17 +105,17 @@ pub reserving-outcome : (t : Table) (d : ℕ) (x : Sight) (c : Command) (new : D
     → Sees t d x
     → x .sound ≡ true
     → isDomainId d ≡ true
-    → firstNo (take 3 (drop 1 (questions (drive t store) (lengthsOf (drive t store) words bytes) c))) ≡ 0
-    → drop 3 (drop 1 (questions (drive t store) (lengthsOf (drive t store) words bytes) c)) ≡ ask 14 (coveredWith t d (new .reserved) (heldCount t d)) ∷ []
-    → effect c (drive t store) ≡ changing [] (withDomain d new t) (drive t store)
-    → Fills c t []
-    → Serves (drive t store) c words bytes (served (outcomeServed t (reserved t d new)) store words bytes)
+    → firstNo (before 14 (after 2 (questions (drive t store) (calling c store words bytes)))) ≡ 0
+    → from 14 (after 2 (questions (drive t store) (calling c store words bytes))) ≡ ask 14 (coveredWith t d (new .reserved) (heldCount t d)) ∷ []
+    → effect (drive t store) (calling c store words bytes) ≡ changing [] (withDomain d new t) (drive t store)
+    → Fills (profile c .bytes) t []
+    → ServesCommand t c store words bytes (served (outcomeServed t (reserved t d new)) store words bytes)
 unfolding reserved firstNo
 reserving-outcome t d x c new store words bytes s e id first last does bytes-are =
     let v = drive t store in
-    let lent = lengthsOf v words bytes in
+    let call = calling c store words bytes in
     let test = coveredWith t d (new .reserved) (heldCount t d) in
-    let asked : firstNo (drop 1 (questions v lent c)) ≡ firstNo (ask 14 test ∷ []) = second-part v lent c 3 first ∙ ap firstNo last in
+    let asked : firstNo (after 2 (questions v call)) ≡ firstNo (ask 14 test ∷ []) = second-part v call 14 first ∙ ap firstNo last in
     let known : ¬ (d ≡ 0) = λ none. omega (arith, is-between 1 16 d id .least, none) in
     by-test test
     (λ q. rw q (changed-outcome t d x c Done (domainChange d new) (withDomain d new t) [] store words bytes s e (asked ∙ rw q) (changed-domain t d new known) does refl bytes-are))

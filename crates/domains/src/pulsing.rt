@@ -9,14 +9,13 @@ ghost use mathlib.Core.List.{List};
 ghost use Prim.Native.Nat.{ℕ};
 ghost use Rattle.model.specs.declared.command.Command.the-variants.{Pulse};
 ghost use Rattle.model.specs.declared.table.Table.{Table};
-ghost use Rattle.rules.specs.Effects.{Serves};
 ghost use Rattle.survey.specs.Sight.{Sees};
 ghost use Rattle.tables.specs.Changing.{outcomeServed};
-ghost use Rattle.tables.specs.Serving.{drive, served};
+ghost use Rattle.tables.specs.Serving.{ServesCommand, served};
 
 // Each open block has so many seconds less, and is Closed where none are left.
 pub fn pulse(sight: Sight, seconds: u64) -> Outcome
-    ensures { λ r. ⌜ ((t : Table) (store words bytes : List ℕ) → Sees t 0 sight → Serves (drive t store) (Pulse seconds) words bytes (served (outcomeServed t r) store words bytes)) ⌝ }
+    ensures { λ r. ⌜ ((t : Table) (store words bytes : List ℕ) → Sees t 0 sight → ServesCommand t (Pulse seconds) store words bytes (served (outcomeServed t r) store words bytes)) ⌝ }
 {
     if !sight.sound {
         return refusal(Refusal::Unsound);

@@ -26,10 +26,9 @@ ghost use Rattle.geometry.specs.Shape.{wholeBlocks, withinLimits};
 ghost use Rattle.model.specs.declared.command.Command.the-variants.{ChangeCapacity, Create};
 ghost use Rattle.model.specs.declared.table.Table.{Table};
 ghost use Rattle.rules.specs.Domains.{arePlaneCounts, createdDomain, newBlockCount, openLimit};
-ghost use Rattle.rules.specs.Effects.{Serves};
 ghost use Rattle.survey.specs.Sight.{Seen, Sees};
 ghost use Rattle.tables.specs.Changing.{outcomeServed};
-ghost use Rattle.tables.specs.Serving.{drive, served};
+ghost use Rattle.tables.specs.Serving.{ServesCommand, served};
 ghost use Rattle.tables.specs.Verdicts.{verdictNumber};
 
 fn are_plane_counts(config: Config, guarantee: Planes, quota: Planes) -> bool
@@ -137,7 +136,7 @@ pub fn create(
     limit: u64,
 ) -> Outcome
     requires { ⌜ Seen domain sight ⌝ }
-    ensures { λ r. ⌜ ((t : Table) (store words bytes : List ℕ) → Sees t domain sight → Serves (drive t store) (Create domain guarantee quota placements limit) words bytes (served (outcomeServed t r) store words bytes)) ⌝ }
+    ensures { λ r. ⌜ ((t : Table) (store words bytes : List ℕ) → Sees t domain sight → ServesCommand t (Create domain guarantee quota placements limit) store words bytes (served (outcomeServed t r) store words bytes)) ⌝ }
 {
     if !sight.sound {
         return refusal(Refusal::Unsound);
@@ -194,7 +193,7 @@ fn changed_domain(sight: Sight, guarantee: Planes, quota: Planes) -> Domain
 // Another guarantee and quota; 0 keeps the present one, and the quota does not fall below what is held.
 pub fn change_capacity(sight: Sight, domain: u64, guarantee: Planes, quota: Planes) -> Outcome
     requires { ⌜ Seen domain sight ⌝ }
-    ensures { λ r. ⌜ ((t : Table) (store words bytes : List ℕ) → Sees t domain sight → Serves (drive t store) (ChangeCapacity domain guarantee quota) words bytes (served (outcomeServed t r) store words bytes)) ⌝ }
+    ensures { λ r. ⌜ ((t : Table) (store words bytes : List ℕ) → Sees t domain sight → ServesCommand t (ChangeCapacity domain guarantee quota) store words bytes (served (outcomeServed t r) store words bytes)) ⌝ }
 {
     if !sight.sound {
         return refusal(Refusal::Unsound);

@@ -9,6 +9,7 @@ use answer_lines::print_answer;
 use answer_lines::print_outcome;
 use geometry::Config;
 use geometry::Elements;
+use geometry::no_config;
 use geometry::sbm_create_flash_address;
 use geometry::sbm_parse_flash_address;
 use geometry::store_length;
@@ -37,16 +38,7 @@ const FULL: u64 = 0xffff_ffff_ffff_ffff;
 
 // Before an accepted start there is a table of zeros.
 pub fn no_drive() -> Console {
-    let none = Config {
-        pages: 0,
-        dies: 0,
-        planes: 0,
-        adus: 0,
-        blocks: 0,
-        rated: 0,
-        period: 0,
-    };
-    let begun = start(none);
+    let begun = start(no_config());
     let table = begun.table;
     Console {
         table,

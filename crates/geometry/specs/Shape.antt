@@ -13,6 +13,10 @@ planes n = record { 0 = n }
 abbrev pub adus : ℕ → Adus
 adus n = record { 0 = n }
 
+-- a configuration of zeros
+abbrev pub noConfig : Config
+noConfig = record { pages = 0; dies = 0; planes = 0; adus = 0; blocks = 0; rated = 0; period = 0 }
+
 -- n is low to high
 abbrev pub between : ℕ → ℕ → ℕ → Bool
 between low high n = leb low n && leb n high

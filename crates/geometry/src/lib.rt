@@ -26,6 +26,7 @@ pub use shape::Config;
 pub use shape::Planes;
 pub use shape::adus_per_block;
 pub use shape::drive_planes;
+pub use shape::no_config;
 pub use shape::planes_per_block;
 pub use shape::store_length;
 pub use shape::stretch_start;

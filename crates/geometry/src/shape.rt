@@ -2,7 +2,7 @@
 ghost use mathlib.Core.Bool.{true};
 ghost use mathlib.Core.Path.{_≡_};
 ghost use Prim.Native.Nat.{_+_, _-_, _/_, _<_, min};
-ghost use Rattle.geometry.specs.Shape.{adusPerBlock, between, counted, drivePlanes, eachInRange};
+ghost use Rattle.geometry.specs.Shape.{adusPerBlock, between, counted, drivePlanes, eachInRange, noConfig};
 ghost use Rattle.geometry.specs.Shape.{planesPerBlock, storeLength, stretchStart, wholeBlocks, withinLimits};
 
 // The seven numbers of a drive, in document 01's order, with its letters.
@@ -21,6 +21,21 @@ pub struct Config {
     pub rated: u64,
     // T, the open period in seconds
     pub period: u64,
+}
+
+// A configuration of zeros, outside the limits.
+pub fn no_config() -> Config
+    ensures { λ r. ⌜ r ≡ noConfig ⌝ }
+{
+    Config {
+        pages: 0,
+        dies: 0,
+        planes: 0,
+        adus: 0,
+        blocks: 0,
+        rated: 0,
+        period: 0,
+    }
 }
 
 // A number of planes.

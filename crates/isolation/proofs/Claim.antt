@@ -1,6 +1,15 @@
--- Demand 3 of the program. Nothing is proved here: each half names its proof.
+-- Demand 3 of the program. Nothing is proved here: each part names its proof.
 use Rattle.isolation.specs.Claim.{Isolation}
+use Rattle.isolation.proofs.Expiry.{expires}
 use Rattle.isolation.proofs.Moments.{guaranteed, indistinguishable}
+use Rattle.isolation.proofs.Reference.{follows-reference, run-replied, run-untouched}
 
 pub isolation : Isolation
-isolation = record { guarantees = guaranteed; noninterference = indistinguishable }
+isolation = record {
+  follows-reference = follows-reference;
+  replies = run-replied;
+  untouched = run-untouched;
+  guarantees = guaranteed;
+  noninterference = indistinguishable;
+  expiry = expires;
+}

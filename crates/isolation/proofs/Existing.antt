@@ -1,6 +1,6 @@
 -- Every list of calls, from the start of every configuration within limits and with every first store, is that of a run.
-use Prim.Native.Nat.{ℕ, _+_, _-_, _≤_}
-use mathlib.Core.Bool.{true, cond}
+use Prim.Native.Nat.{ℕ, suc, _+_, _-_, _≤_}
+use mathlib.Core.Bool.{Bool, true, false, cond}
 use mathlib.Core.List.{List, [], _∷_, map}
 use mathlib.Core.Option.{Option, none, some}
 use mathlib.Core.Path.{_≡_, refl, sym, ap, ap₂, _∙_, subst}
@@ -14,8 +14,9 @@ use Rattle.geometry.proofs.Laws.Shape.{both, by-test}
 use Rattle.geometry.specs.Questions.{Question, firstNo, refusal, success}
 use Rattle.geometry.specs.Shape.{storeLength, withinLimits}
 use Rattle.geometry.specs.declared.shape.Config.{Config}
-use Rattle.isolation.specs.Calls.{ServeCall, StartCall, storeBefore, tableBefore}
-use Rattle.isolation.specs.Runs.{Handed, RunOf, callOf, isOwnStore, left}
+use Rattle.isolation.specs.Calls.{ServeCall, StartCall, byValue, callOf, inPlace, isInPlace}
+use Rattle.isolation.specs.Calls as calls
+use Rattle.isolation.specs.Runs.{Formed, Handed, RunOf, isOwnStore, afterCall}
 use Rattle.isolation.proofs.Reference.{same-config}
 use Rattle.isolation.proofs.Steps.{Stepped, stepped}
 use Rattle.model.specs.Answers.{numberOf, outcomeOf}
@@ -33,14 +34,15 @@ use Rattle.rules.proofs.Kept.Calls.{Course, course-step}
 use Rattle.rules.proofs.Laws.{always-answered, questions-in-order, start-accepted}
 use Rattle.rules.proofs.Noninterference.Moments.{begun-course}
 use Rattle.rules.specs.Blocks.{erasedBlock}
+use Rattle.rules.specs.Calls.{Call, calling, lending}
 use Rattle.rules.specs.Claims.{rising}
 use Rattle.rules.specs.Counting.{allTo}
 use Rattle.rules.specs.Drive.{Drive}
-use Rattle.rules.specs.Effects.{Serves, accepted, answerTo, effect, erasing, verdict}
-use Rattle.rules.specs.Questions.{Lengths, questions}
-use Rattle.rules.specs.Runs.{Call, begun, step}
+use Rattle.rules.specs.Effects.{accepted, answerTo, effect, effectOf, erasing, step, verdict}
+use Rattle.rules.specs.Questions.{questions}
+use Rattle.rules.specs.Runs.{begun}
 use Rattle.rules.specs.Start.{Started, emptyTable}
-use Rattle.tables.specs.Serving.{drive, served}
+use Rattle.tables.specs.Serving.{ServesCommand, drive, served}
 use Rattle.tables.specs.declared.served.Served.{Served}
 
 -- ---- An answer for every outcome
@@ -83,8 +85,7 @@ erase-answer : (d : ℕ) (block : Option ℕ) (v : Drive) → (a : Answer) × (o
 erase-answer d none v = (given.Done, refl)
 erase-answer d (some n) v = (given.Block n, refl)
 
-success-of : (c : Command) (v : Drive) → (a : Answer) × (outcomeOf a ≡ success (effect c v .values))
-unfolding effect
+success-of : (c : Command) (v : Drive) → (a : Answer) × (outcomeOf a ≡ success (effectOf c v .values))
 success-of (Create d guarantee quota placements limit) v = (given.Done, refl)
 success-of (ChangeCapacity d guarantee quota) v = (given.Done, refl)
 success-of (Delete d) v = (given.Done, refl)
@@ -98,19 +99,20 @@ success-of (Page d n) v = (given.Done, refl)
 success-of (Listing d which) v = (given.Done, refl)
 success-of (Pulse seconds) v = (given.Done, refl)
 
-answer-of : (v : Drive) (lent : Lengths) (c : Command) → (a : Answer) × (outcomeOf a ≡ answerTo v lent c)
-answer-of v lent c =
-    let qs = questions v lent c in
-    let values = effect c v .values in
-    by-test (accepted v lent c)
+answer-of : (v : Drive) (k : Call) → (a : Answer) × (outcomeOf a ≡ answerTo v k)
+unfolding effect
+answer-of v k =
+    let qs = questions v k in
+    let values = effect v k .values in
+    by-test (accepted v k)
     (λ e.
-    let s = success-of c v in
-    (s .0, s .1 ∙ sym (answered-yes qs values (eqb-true (verdict v lent c) 0 e))))
+    let s = success-of (k .command) v in
+    (s .0, s .1 ∙ sym (answered-yes qs values (eqb-true (verdict v k) 0 e))))
     (λ e.
-    let some-no = eqb-false (verdict v lent c) 0 e in
-    let least : 1 ≤ verdict v lent c = omega (arith, some-no) in
-    let r = refusal-of (verdict v lent c) least (first-most 1 qs (questions-in-order v lent c)) in
-    (given.Refused (r .0), ap refusal (r .1) ∙ sym (answered-no qs values (verdict v lent c) least refl)))
+    let some-no = eqb-false (verdict v k) 0 e in
+    let least : 1 ≤ verdict v k = omega (arith, some-no) in
+    let r = refusal-of (verdict v k) least (first-most 1 qs (questions-in-order v k)) in
+    (given.Refused (r .0), ap refusal (r .1) ∙ sym (answered-no qs values (verdict v k) least refl)))
 
 -- ---- A call with a result that its contract allows
 
@@ -118,29 +120,66 @@ answer-of v lent c =
 abbrev lent : List ℕ → RefT (List ℕ)
 lent content = record { ptr = (0, 0); name = 0; now = content }
 
-abbrev made : (t : Table) (c : Command) (store words bytes : List ℕ) (r : Served) (store' words' bytes' : List ℕ)
-    → Serves (drive t store) c words bytes (served r store' words' bytes')
+-- The same of a lent table.
+abbrev lentTable : Table → RefT Table
+lentTable t = record { ptr = (0, 0); name = 0; now = t }
+
+-- A call of `serve_in` or of `serve` that is given these and hands back those.
+abbrev made : Bool → (t : Table) (c : Command) (store words bytes : List ℕ) (r : Served) (store' words' bytes' : List ℕ)
+    → ServesCommand t c store words bytes (served r store' words' bytes')
     → ServeCall
-made t c store words bytes r store' words' bytes' s = record {
+made true t c store words bytes r store' words' bytes' s = inPlace (record {
+  lifetimes = ([], ([], ([], ([], tt))));
+  arguments = (lentTable t, (c, (lent store, (lent words, (lent bytes, tt)))));
+  result = r .answer;
+  exit = (lentTable (r .table), (c, (lent store', (lent words', (lent bytes', tt)))));
+  meets = s;
+})
+made false t c store words bytes r store' words' bytes' s = byValue (record {
   lifetimes = ([], ([], ([], tt)));
   arguments = (t, (c, (lent store, (lent words, (lent bytes, tt)))));
   result = r;
   exit = (t, (c, (lent store', (lent words', (lent bytes', tt)))));
   meets = s;
-}
+})
 
--- On every table, for every command and whatever is lent there is one.
-any-call : (t : Table) (c : Command) (store words bytes : List ℕ)
-    → (k : ServeCall) × (tableBefore k ≡ t) × (storeBefore k ≡ store)
-    × (callOf k ≡ record { command = c; lent = record { store = length store; words = length words; bytes = length bytes } })
-any-call t c store words bytes =
+-- On every table, for every command and whatever is lent there is one of either.
+record Any (form : Bool) (t : Table) (c : Command) (store words bytes : List ℕ) : Type 0 where
+  call : ServeCall
+  formed : isInPlace call ≡ form
+  table : calls.given call .table ≡ t
+  store-given : calls.given call .store ≡ store
+  is : callOf call ≡ calling c store words bytes
+
+any-call : (form : Bool) (t : Table) (c : Command) (store words bytes : List ℕ) → Any form t c store words bytes
+any-call form t c store words bytes =
     let v = drive t store in
-    let x = always-answered v c words bytes in
+    let k = calling c store words bytes in
+    let x = always-answered v k words bytes in
     let r = x .0 in
-    let a = answer-of v (record { store = length store; words = length words; bytes = length bytes }) c in
-    let s : Serves v c words bytes (served (record { answer = a .0; table = r .drive .table }) (r .drive .store) (r .words) (r .bytes)) =
+    let a = answer-of v k in
+    let result : Served = record { answer = a .0; table = r .drive .table } in
+    let s : ServesCommand t c store words bytes (served result (r .drive .store) (r .words) (r .bytes)) =
     record { answers = a .1; leaves = x .1 .leaves; fills-words = x .1 .fills-words; fills-bytes = x .1 .fills-bytes } in
-    (made t c store words bytes (record { answer = a .0; table = r .drive .table }) (r .drive .store) (r .words) (r .bytes) s, refl, refl, refl)
+    of form result (r .drive .store) (r .words) (r .bytes) s
+  where
+    of : (form : Bool) (result : Served) (store' words' bytes' : List ℕ)
+        → ServesCommand t c store words bytes (served result store' words' bytes')
+        → Any form t c store words bytes
+    of true result store' words' bytes' s = record {
+      call = made true t c store words bytes result store' words' bytes' s;
+      formed = refl;
+      table = refl;
+      store-given = refl;
+      is = refl;
+    }
+    of false result store' words' bytes' s = record {
+      call = made false t c store words bytes result store' words' bytes' s;
+      formed = refl;
+      table = refl;
+      store-given = refl;
+      is = refl;
+    }
 
 -- ---- Lists of calls
 
@@ -151,43 +190,45 @@ zeros-long : (n : ℕ) → length (zeros n) ≡ n
 zeros-long n = length-replicate {A = ℕ} n 0
 
 -- What a call that is lent so many entries is lent: the run's own store, or zeros.
-abbrev storeFor : Config → Lengths → Drive → List ℕ
-storeFor c l v = cond (eqb (l .store) (storeLength c .0)) (v .store) (zeros (l .store))
+abbrev storeFor : Config → Call → Drive → List ℕ
+storeFor c k v = cond (eqb (k .lent .store) (storeLength c .0)) (v .store) (zeros (k .lent .store))
 
-store-long : (c : Config) (l : Lengths) (v : Drive) → length (v .store) ≡ storeLength c .0 → length (storeFor c l v) ≡ l .store
-store-long c l v whole =
-    by-test (eqb (l .store) (storeLength c .0))
-    (λ e. rw e (whole ∙ sym (eqb-true (l .store) (storeLength c .0) e)))
-    (λ e. rw e (zeros-long (l .store)))
+store-long : (c : Config) (k : Call) (v : Drive) → length (v .store) ≡ storeLength c .0 → length (storeFor c k v) ≡ k .lent .store
+store-long c k v whole =
+    by-test (eqb (k .lent .store) (storeLength c .0))
+    (λ e. rw e (whole ∙ sym (eqb-true (k .lent .store) (storeLength c .0) e)))
+    (λ e. rw e (zeros-long (k .lent .store)))
 
--- A list of the program's calls that are these.
-record Made (c : Config) (ks : List Call) (v : Drive) : Type 0 where
+-- A list of the program's calls that are these, of either form.
+record Made (c : Config) (ks : List Call) (inPlace? : ℕ → Bool) (i : ℕ) (v : Drive) : Type 0 where
   calls : List ServeCall
   are : map callOf calls ≡ ks
   handed : Handed c calls v
+  formed : Formed inPlace? i calls
 
-made-all : (c : Config) (ks : List Call) (v : Drive) → Course v → v .table .config ≡ c → Made c ks v
-unfolding Handed
-made-all c [] v course config = record { calls = []; are = refl; handed = tt }
-made-all c (k ∷ ks) v course config =
-    let store = storeFor c (k .lent) v in
-    let x = any-call (v .table) (k .command) store (zeros (k .lent .words)) (zeros (k .lent .bytes)) in
-    let s = x .0 in
-    let long = store-long c (k .lent) v (course .store ∙ ap (λ (y : Config). storeLength y .0) config) in
+made-all : (c : Config) (ks : List Call) (inPlace? : ℕ → Bool) (i : ℕ) (v : Drive) → Course v → v .table .config ≡ c → Made c ks inPlace? i v
+unfolding Handed Formed
+made-all c [] inPlace? i v course config = record { calls = []; are = refl; handed = tt; formed = tt }
+made-all c (k ∷ ks) inPlace? i v course config =
+    let store = storeFor c k v in
+    let x = any-call (inPlace? i) (v .table) (k .command) store (zeros (k .lent .words)) (zeros (k .lent .bytes)) in
+    let s = x .call in
+    let long = store-long c k v (course .store ∙ ap (λ (y : Config). storeLength y .0) config) in
     let is : callOf s ≡ k =
-    x .3 ∙ (λ i. record { command = k .command; lent = record { store = long i; words = zeros-long (k .lent .words) i; bytes = zeros-long (k .lent .bytes) i } }) in
-    let own : isOwnStore c s ≡ true → storeBefore s ≡ v .store = λ e.
+    x .is ∙ (λ j. lending (k .command) (long j) (zeros-long (k .lent .words) j) (zeros-long (k .lent .bytes) j)) in
+    let own : isOwnStore c s ≡ true → calls.given s .store ≡ v .store = λ e.
     let fits : eqb (k .lent .store) (storeLength c .0) ≡ true =
-    ap (λ (n : ℕ). eqb n (storeLength c .0)) (sym (ap length (x .2) ∙ long)) ∙ e in
-    x .2 ∙ rw fits in
+    ap (λ (n : ℕ). eqb n (storeLength c .0)) (sym (ap length (x .store-given) ∙ long)) ∙ e in
+    x .store-given ∙ rw fits in
     let steps = subst (λ (y : Config). Stepped y s v) config
-    (stepped s v course (x .1) (λ e. own (subst (λ (y : Config). isOwnStore y s ≡ true) config e))) in
-    let moved : left c s v ≡ step k v = steps .leaves ∙ ap (λ (y : Call). step y v) is in
-    let rest = made-all c ks (step k v) (course-step k v course) (same-config k v course ∙ config) in
+    (stepped s v course (x .table) (λ e. own (subst (λ (y : Config). isOwnStore y s ≡ true) config e))) in
+    let moved : afterCall c s v ≡ step k v = steps .leaves ∙ ap (λ (y : Call). step y v) is in
+    let rest = made-all c ks inPlace? (suc i) (step k v) (course-step k v course) (same-config k v course ∙ config) in
     record {
       calls = s ∷ rest .calls;
       are = ap₂ (λ (y : Call) (ys : List Call). y ∷ ys) is (rest .are);
-      handed = (x .1, own, subst (Handed c (rest .calls)) (sym moved) (rest .handed));
+      handed = (x .table, own, subst (Handed c (rest .calls)) (sym moved) (rest .handed));
+      formed = (x .formed, rest .formed);
     }
 
 -- ---- Runs
@@ -201,11 +242,14 @@ started-call c within = record {
   meets = sym (start-accepted c within);
 }
 
--- Every list of calls is that of a run.
-pub runs-every-list : (c : Config) (store : List ℕ) (ks : List Call) → withinLimits c ≡ true → length store ≡ storeLength c .0 → RunOf c store ks
-runs-every-list c store ks within whole =
+-- Every list of calls is that of a run, whichever of them are of `serve_in`.
+pub runs-every-list : (c : Config) (store : List ℕ) (ks : List Call) (inPlace? : ℕ → Bool)
+    → withinLimits c ≡ true
+    → length store ≡ storeLength c .0
+    → RunOf c store ks inPlace?
+runs-every-list c store ks inPlace? within whole =
     let begins = start-accepted c within in
-    let m = made-all c ks (begun c store) (begun-course c store within whole) (ap (λ (x : Started). x .table .config) begins) in
+    let m = made-all c ks inPlace? 0 (begun c store) (begun-course c store within whole) (ap (λ (x : Started). x .table .config) begins) in
     let same : begun c store ≡ drive (emptyTable c) store = ap (λ (x : Started). drive (x .table) store) begins in
     record {
       its = record {
@@ -219,4 +263,5 @@ runs-every-list c store ks within whole =
       configured = refl;
       lent-first = refl;
       called = m .are;
+      formed = m .formed;
     }

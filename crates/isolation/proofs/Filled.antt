@@ -8,19 +8,19 @@ use lib.ListN.{length}
 use borrow.Author.Tests.{eqb-true}
 use Rattle.geometry.proofs.Laws.Shape.{by-test}
 use Rattle.geometry.specs.Shape.{storeLength}
-use Rattle.isolation.specs.Runs.{bytesDue, wordsDue}
 use Rattle.model.specs.declared.command.Command.{Command}
 use Rattle.model.specs.declared.command.Command.the-variants.{ChangeCapacity, Close, Create, Delete, Erase, Free, List as Listing, Page, Pulse, Read}
 use Rattle.model.specs.declared.command.Command.the-variants.{WriteByBlock, WriteByPlacement}
-use Rattle.model.specs.declared.command.Listed.the-variants as listed
 use Rattle.rules.proofs.Claims.{write-finds-free}
+use Rattle.rules.proofs.Effects.{bytes-counted}
 use Rattle.rules.proofs.Kept.Calls.{Course}
-use Rattle.rules.proofs.Laws.{block-words, closed-list-length, open-list-length, page-length, read-words}
+use Rattle.rules.proofs.Laws.{block-words, read-words}
 use Rattle.rules.proofs.Questions.{answered-yes}
 use Rattle.rules.specs.Blocks.{erasedBlock}
+use Rattle.rules.specs.Calls.{BytesDue, Call, _asking_, profile, wordCount}
 use Rattle.rules.specs.Drive.{Drive}
-use Rattle.rules.specs.Effects.{BytesFilled, Fills, FillsIf, accepted, effect, erasing, verdict, wordsFilled}
-use Rattle.rules.specs.Questions.{Lengths, questions}
+use Rattle.rules.specs.Effects.{BytesFilled, FillsIf, accepted, byteCount, effect, erasing, verdict, wordsFilled}
+use Rattle.rules.specs.Questions.{questions}
 
 -- Erase fills no words, whatever block it opens, ..
 erase-fills-none : (d : ℕ) (block : Option ℕ) (v : Drive) → erasing d block v .words ≡ []
@@ -28,13 +28,13 @@ erase-fills-none d none v = refl
 erase-fills-none d (some n) v = refl
 
 -- .. and no refused call does.
-refused-fills-none : (v : Drive) (lent : Lengths) (c : Command) → accepted v lent c ≡ false → wordsFilled v lent c ≡ []
+refused-fills-none : (v : Drive) (k : Call) → accepted v k ≡ false → wordsFilled v k ≡ []
 unfolding wordsFilled
-refused-fills-none v lent c e = rw e
+refused-fills-none v k e = rw e
 
-module _ (v : Drive) (course : Course v) (lent : Lengths) where
+module _ (v : Drive) (course : Course v) (k : Call) where
   -- The words of an accepted call, ..
-  words-counted : (c : Command) → verdict v lent c ≡ 0 → length (wordsFilled v lent c) ≡ wordsDue c
+  words-counted : (c : Command) → verdict v (k asking c) ≡ 0 → length (wordsFilled v (k asking c)) ≡ wordCount (profile c .words)
   unfolding questions effect wordsFilled
   words-counted (Create d guarantee quota placements limit) e = rw e
   words-counted (ChangeCapacity d guarantee quota) e = rw e
@@ -43,42 +43,29 @@ module _ (v : Drive) (course : Course v) (lent : Lengths) where
   words-counted (Close d n) e = rw e
   words-counted (Free d n) e = rw e
   words-counted (WriteByPlacement d p start count) e =
-      write-finds-free v lent d p start count (course .shaped) (λ x. course .store) e .0
-  words-counted (WriteByBlock d n start count) e = block-words v lent d n start count e
+      write-finds-free v k d p start count (course .shaped) (λ x. course .store) e .0
+  words-counted (WriteByBlock d n start count) e = block-words v k d n start count e
   words-counted (Read d address count expected) e =
-      let fits = eqb-true (lent .store) (storeLength (v .table .config) .0) (answered-yes v lent (Read d address count expected) 1 e) in
-      read-words v lent d address count expected (course .store ∙ sym fits) e
+      let c = Read d address count expected in
+      let fits = eqb-true (k .lent .store) (storeLength (v .table .config) .0) (answered-yes v (k asking c) 3 e) in
+      read-words v k d address count expected (course .store ∙ sym fits) e
   words-counted (Page d n) e = rw e
   words-counted (Listing d which) e = rw e
   words-counted (Pulse seconds) e = rw e
 
   -- .. of any call, ..
-  pub words-due : (c : Command) → length (wordsFilled v lent c) ≡ cond (accepted v lent c) (wordsDue c) 0
-  words-due c =
-      by-test (accepted v lent c)
-      (λ e. words-counted c (eqb-true (verdict v lent c) 0 e) ∙ rw e)
-      (λ e. ap length (refused-fills-none v lent c e) ∙ rw e)
+  pub words-due : length (wordsFilled v k) ≡ cond (accepted v k) (wordCount (profile (k .command) .words)) 0
+  words-due =
+      by-test (accepted v k)
+      (λ e. words-counted (k .command) (eqb-true (verdict v k) 0 e) ∙ rw e)
+      (λ e. ap length (refused-fills-none v k e) ∙ rw e)
 
   -- .. and the bytes.
-  bytes-counted : (c : Command) (filled : List ℕ) → Fills c (v .table) filled → length filled ≡ bytesDue (v .table) c
-  bytes-counted (Create d guarantee quota placements limit) filled f = ap length f
-  bytes-counted (ChangeCapacity d guarantee quota) filled f = ap length f
-  bytes-counted (Delete d) filled f = ap length f
-  bytes-counted (Erase d n) filled f = ap length f
-  bytes-counted (Close d n) filled f = ap length f
-  bytes-counted (Free d n) filled f = ap length f
-  bytes-counted (WriteByPlacement d p start count) filled f = ap length f
-  bytes-counted (WriteByBlock d n start count) filled f = ap length f
-  bytes-counted (Read d address count expected) filled f = ap length f
-  bytes-counted (Page d n) filled f = ap length f ∙ page-length (v .table) n
-  bytes-counted (Listing d listed.Closed) filled f = ap length f ∙ closed-list-length (v .table) d
-  bytes-counted (Listing d listed.Open) filled f = open-list-length (v .table) d filled f
-  bytes-counted (Pulse seconds) filled f = ap length f
+  bytes-if : (b : Bool) (due : BytesDue) (filled : List ℕ) → FillsIf b due (v .table) filled
+      → length filled ≡ cond b (byteCount (v .table) due) 0
+  bytes-if true due filled f = bytes-counted (v .table) due filled f
+  bytes-if false due filled f = ap length f
 
-  bytes-if : (b : Bool) (c : Command) (filled : List ℕ) → FillsIf b c (v .table) filled → length filled ≡ cond b (bytesDue (v .table) c) 0
-  bytes-if true c filled f = bytes-counted c filled f
-  bytes-if false c filled f = ap length f
-
-  pub bytes-due : (c : Command) (filled : List ℕ) → BytesFilled v lent c filled
-      → length filled ≡ cond (accepted v lent c) (bytesDue (v .table) c) 0
-  bytes-due c filled f = bytes-if (accepted v lent c) c filled f
+  pub bytes-due : (filled : List ℕ) → BytesFilled v k filled
+      → length filled ≡ cond (accepted v k) (byteCount (v .table) (profile (k .command) .bytes)) 0
+  bytes-due filled f = bytes-if (accepted v k) (profile (k .command) .bytes) filled f

@@ -1,7 +1,7 @@
 -- The two halves of the claim, from those of the rules.
 use Prim.Native.Nat.{ℕ, zero, suc}
 use mathlib.Core.Bool.{true}
-use mathlib.Core.List.{List, [], _∷_, map}
+use mathlib.Core.List.{List, [], _∷_}
 use mathlib.Core.Path.{_≡_, refl, sym, ap, ap₂, _∙_, subst}
 use lib.ListN.{length, take}
 use Rattle.geometry.specs.Address.{isDomainId}
@@ -10,10 +10,11 @@ use Rattle.geometry.specs.declared.shape.Config.{Config}
 use Rattle.isolation.specs.Runs.{Run, callsOf, configuration, exchangesOf, first, referenceAfter}
 use Rattle.isolation.proofs.Reference.{exchanged-calls, run-replied, run-within}
 use Rattle.rules.proofs.Claims as rules
+use Rattle.rules.specs.Calls.{Call}
 use Rattle.rules.specs.Claims.{Guaranteed}
 use Rattle.rules.specs.Drive.{Drive}
 use Rattle.rules.specs.Noninterference.{Exchange, Indistinguishable, Replied, calls, fullyReserved, inputs}
-use Rattle.rules.specs.Runs.{Call, begun}
+use Rattle.rules.specs.Runs.{begun}
 
 pub guaranteed : (r : Run) (i : ℕ) → Guaranteed (referenceAfter i r .table)
 guaranteed r i = rules.guarantees (configuration r) (r .store) (callsOf r) (run-within r) (r .whole) i

@@ -9,17 +9,19 @@ use Rattle.geometry.proofs.Laws.Shape.{by-test}
 use Rattle.geometry.specs.Questions.{Outcome, success}
 use Rattle.geometry.specs.Shape.{withinLimits}
 use Rattle.geometry.specs.declared.shape.Config.{Config}
-use Rattle.isolation.specs.Calls.{ServeCall, StartCall, configOf, firstTable, startAnswer}
-use Rattle.isolation.specs.Runs.{Handed, Run, callOf, configuration, exchanges, exchangesOf, first, isOwnStore, left, leftBy, programAfter, referenceAfter}
+use Rattle.isolation.specs.Calls.{ServeCall, StartCall, callOf, configOf, firstTable, startAnswer}
+use Rattle.isolation.specs.Runs.{Handed, Run, Untouched, configuration, exchanges, exchangesOf, first, isOwnStore, afterCall, afterCalls, programAfter, referenceAfter}
 use Rattle.isolation.proofs.Contracts.{start-contract}
 use Rattle.isolation.proofs.Steps.{Stepped, stepped}
 use Rattle.model.specs.declared.table.Table.{Table}
 use Rattle.rules.proofs.Kept.Calls.{Course, call-sequel, course-fit, course-step}
 use Rattle.rules.proofs.Noninterference.Moments.{begun-course}
+use Rattle.rules.specs.Calls.{Call}
 use Rattle.rules.specs.Drive.{Drive}
+use Rattle.rules.specs.Effects.{step}
 use Rattle.rules.specs.Noninterference.{Replied, calls}
 use Rattle.rules.proofs.Laws.{start-accepted, start-refused}
-use Rattle.rules.specs.Runs.{Call, run, step}
+use Rattle.rules.specs.Runs.{run}
 use Rattle.rules.specs.Start.{Started, started}
 use Rattle.tables.specs.Serving.{drive}
 
@@ -43,18 +45,19 @@ start-table s = ap (λ (x : Started). x .table) (start-contract s)
 
 -- A step keeps the configuration.
 pub same-config : (k : Call) (v : Drive) → Course v → step k v .table .config ≡ v .table .config
-same-config k v course = call-sequel v (k .lent) (course-fit course (k .lent)) (k .command) .config
+same-config k v course = call-sequel v k (course-fit course k) .config
 
 -- What a list of calls leaves is what the reference machine has, and each reply is what the rules give.
 record Followed (c : Config) (ks : List ServeCall) (v : Drive) : Type 0 where
-  leaves : (i : ℕ) → leftBy c (take i ks) v ≡ run (map callOf (take i ks)) v
+  leaves : (i : ℕ) → afterCalls c (take i ks) v ≡ run (map callOf (take i ks)) v
   replied : Replied (exchanges ks v) v
+  untouched : Untouched c ks v
 
 followed : (c : Config) (ks : List ServeCall) (v : Drive) → Course v → v .table .config ≡ c → Handed c ks v → Followed c ks v
-unfolding Handed leftBy run Replied exchanges
-followed c [] v course config handed = record { leaves = λ i. nothing i; replied = tt }
+unfolding Handed Untouched afterCalls run Replied exchanges
+followed c [] v course config handed = record { leaves = λ i. nothing i; replied = tt; untouched = tt }
   where
-    nothing : (i : ℕ) → leftBy c (take i []) v ≡ run (map callOf (take i [])) v
+    nothing : (i : ℕ) → afterCalls c (take i []) v ≡ run (map callOf (take i [])) v
     nothing zero = refl
     nothing (suc i) = refl
 followed c (k ∷ ks) v course config handed =
@@ -63,12 +66,13 @@ followed c (k ∷ ks) v course config handed =
     let rest = followed c ks next (course-step (callOf k) v course) (same-config (callOf k) v course ∙ config)
     (subst (Handed c ks) (s .leaves) (handed .2)) in
     record {
-      leaves = λ i. by-number i (λ j. ap (leftBy c (take j ks)) (s .leaves) ∙ rest .leaves j);
+      leaves = λ i. by-number i (λ j. ap (afterCalls c (take j ks)) (s .leaves) ∙ rest .leaves j);
       replied = (s .replied, rest .replied);
+      untouched = (s .words, s .bytes, s .other-store-kept, rest .untouched);
     }
   where
-    by-number : (i : ℕ) → ((j : ℕ) → leftBy c (take j ks) (left c k v) ≡ run (map callOf (take j ks)) (step (callOf k) v))
-        → leftBy c (take i (k ∷ ks)) v ≡ run (map callOf (take i (k ∷ ks))) v
+    by-number : (i : ℕ) → ((j : ℕ) → afterCalls c (take j ks) (afterCall c k v) ≡ run (map callOf (take j ks)) (step (callOf k) v))
+        → afterCalls c (take i (k ∷ ks)) v ≡ run (map callOf (take i (k ∷ ks))) v
     by-number zero h = refl
     by-number (suc j) h = h j
 
@@ -98,13 +102,16 @@ module _ (r : Run) where
   -- After every call the program's table and the run's store are the reference machine's, ..
   pub follows-reference : (i : ℕ) → programAfter i r ≡ referenceAfter i r
   follows-reference i =
-      ap (leftBy (configuration r) (take i (r .calls))) run-first
+      ap (afterCalls (configuration r) (take i (r .calls))) run-first
       ∙ run-followed .leaves i
       ∙ ap (λ (ks : List Call). run ks (first r)) (take-map i (r .calls))
 
-  -- .. and every reply is what the rules give.
+  -- .. every reply is what the rules give, and nothing beyond it is touched.
   pub run-replied : Replied (exchangesOf r) (first r)
   run-replied = run-followed .replied
+
+  pub run-untouched : Untouched (configuration r) (r .calls) (first r)
+  run-untouched = run-followed .untouched
 
 -- The calls of the exchanges are the run's.
 pub exchanged-calls : (ks : List ServeCall) (v : Drive) → calls (exchanges ks v) ≡ map callOf ks

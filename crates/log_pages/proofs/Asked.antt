@@ -4,7 +4,6 @@ use mathlib.Core.Bool.{true}
 use mathlib.Core.List.{List, [], _∷_}
 use mathlib.Core.Path.{_≡_, refl, sym, ap, _∙_}
 use lib.Dec.{leb}
-use lib.ListN.{drop, take}
 use borrow.Author.Tests.{leb-true, ltb-true}
 use Rattle.geometry.proofs.Laws.Questions.{positive}
 use Rattle.geometry.proofs.Laws.Shape.{by-test}
@@ -15,21 +14,21 @@ use Rattle.log_pages.specs.LogPages.{lengthSeen, pageQuestions}
 use Rattle.model.specs.declared.command.Command.the-variants.{List as Listing, Page}
 use Rattle.model.specs.declared.command.Listed.{Listed}
 use Rattle.model.specs.declared.table.Table.{Table}
-use Rattle.rules.proofs.Questions.{yes-at}
+use Rattle.rules.proofs.Questions.{after, before, yes-in}
+use Rattle.rules.specs.Calls.{Call, _asking_, lending}
 use Rattle.rules.specs.Drive.{size}
-use Rattle.rules.specs.Questions.{Lengths, questions}
+use Rattle.rules.specs.Questions.{questions}
 use Rattle.survey.specs.Sight.{Sees, SeesBlock}
 use Rattle.survey.specs.declared.sight.Sight.{Sight}
 use Rattle.tables.proofs.Answering.{second-part}
 use Rattle.tables.specs.Serving.{drive}
-use Rattle.tables.specs.Verdicts.{lending}
 
 -- ---- Page
 
 -- The record that is seen is asked for no block of another drive: the range comes first.
 pub page-asked : (t : Table) (d n room : ℕ) (x : Sight) (store : List ℕ) (entries words : ℕ) → Sees t d x → SeesBlock t n x
     → x .sound ≡ true
-    → firstNo (pageQuestions x d n room) ≡ firstNo (drop 1 (questions (drive t store) (lending entries words room) (Page d n)))
+    → firstNo (pageQuestions x d n room) ≡ firstNo (after 2 (questions (drive t store) (lending (Page d n) entries words room)))
 unfolding firstNo questions
 page-asked t d n room x store entries words s b e =
     rw (s .same-domain, s .same-config)
@@ -38,12 +37,12 @@ page-asked t d n room x store entries words s b e =
 -- Where all is answered yes the block is one of the drive's, ..
 pub page-inside : (x : Sight) (d n room : ℕ) → firstNo (pageQuestions x d n room) ≡ 0 → n < x .config .blocks
 unfolding positive
-page-inside x d n room e = ltb-true n (x .config .blocks) (yes-at 2 (pageQuestions x d n room) refl e)
+page-inside x d n room e = ltb-true n (x .config .blocks) (yes-in 6 (pageQuestions x d n room) refl e)
 
 -- .. and there is room for the page.
 pub page-room : (x : Sight) (d n room : ℕ) → firstNo (pageQuestions x d n room) ≡ 0 → 256 ≤ room
 unfolding positive
-page-room x d n room e = leb-true 256 room (yes-at 3 (pageQuestions x d n room) refl e)
+page-room x d n room e = leb-true 256 room (yes-in 7 (pageQuestions x d n room) refl e)
 
 -- ---- List
 
@@ -51,22 +50,21 @@ page-room x d n room e = leb-true 256 room (yes-at 3 (pageQuestions x d n room) 
 abbrev pub domainQuestions : Sight → ℕ → List Question
 domainQuestions x d = ask 4 (isDomainId d) ∷ ask 5 (x .domain .exists) ∷ []
 
-pub domain-asked : (t : Table) (d : ℕ) (which : Listed) (x : Sight) (store : List ℕ) (lent : Lengths) → Sees t d x
-    → firstNo (domainQuestions x d) ≡ firstNo (take 2 (drop 1 (questions (drive t store) lent (Listing d which))))
+pub domain-asked : (t : Table) (d : ℕ) (which : Listed) (x : Sight) (store : List ℕ) (call : Call) → Sees t d x
+    → firstNo (domainQuestions x d) ≡ firstNo (before 7 (after 2 (questions (drive t store) (call asking Listing d which))))
 unfolding questions
-domain-asked t d which x store lent s = rw (s .same-domain)
+domain-asked t d which x store call s = rw (s .same-domain)
 
 -- .. where it is answered yes: the ID is a domain's, ..
 pub known-id : (x : Sight) (d : ℕ) → firstNo (domainQuestions x d) ≡ 0 → isDomainId d ≡ true
 unfolding positive
-known-id x d e = yes-at 0 (domainQuestions x d) refl e
+known-id x d e = yes-in 4 (domainQuestions x d) refl e
 
 -- .. and the bytes are left to ask for.
 pub list-asked : (t : Table) (d : ℕ) (which : Listed) (x : Sight) (store : List ℕ) (entries words room : ℕ) → Sees t d x → x .sound ≡ true
     → firstNo (domainQuestions x d) ≡ 0
-    → firstNo (drop 1 (questions (drive t store) (lending entries words room) (Listing d which))) ≡ firstNo (ask 7 (leb (lengthSeen x which) room) ∷ [])
+    → firstNo (after 2 (questions (drive t store) (lending (Listing d which) entries words room))) ≡ firstNo (ask 7 (leb (lengthSeen x which) room) ∷ [])
 unfolding questions
 list-asked t d which x store entries words room s e first =
-    let lent = lending entries words room in
-    second-part (drive t store) lent (Listing d which) 2 (rw (s .same-domain) at first)
+    second-part (drive t store) (lending (Listing d which) entries words room) 7 (rw (s .same-domain) at first)
     ∙ ap (λ (n : ℕ). firstNo (ask 7 (leb n room) ∷ [])) (sym (length-seen t d which x s e (known-id x d first)))

@@ -12,12 +12,11 @@ use borrow.Author.Tests.{eq-eqb, ne-eqb}
 use Rattle.geometry.proofs.Laws.Shape.{both, by-test}
 use Rattle.geometry.specs.Bytes.{littleEndian}
 use Rattle.log_pages.proofs.Filling.{Filled}
-use Rattle.log_pages.specs.LogPages.{codeAt, descriptorOf, markedBytes, markedTo}
+use Rattle.log_pages.specs.LogPages.{codeAt, markedBytes, markedTo}
 use Rattle.model.specs.declared.block.Block.{Block}
 use Rattle.model.specs.declared.block.State.{State}
 use Rattle.model.specs.declared.block.State.the-variants as state
 use Rattle.model.specs.declared.block.Way.the-variants.{Erase, Placement}
-use Rattle.model.specs.declared.command.Command.the-variants.{List as Listing}
 use Rattle.model.specs.declared.command.Listed.{Listed}
 use Rattle.model.specs.declared.command.Listed.the-variants.{Closed, Open}
 use Rattle.model.specs.declared.table.Table.{Table}
@@ -25,11 +24,12 @@ use Rattle.rules.proofs.Counting.{by-eq, clash, numbers-once}
 use Rattle.rules.proofs.Drive.{fill-then}
 use Rattle.rules.proofs.LogPages.{closed-list-length, open-list-length}
 use Rattle.rules.proofs.Store.{length-overwritten}
+use Rattle.rules.specs.Calls.{listBytes}
 use Rattle.rules.specs.Counting.{numbersTo}
-use Rattle.rules.specs.Drive.{blockAt, heldBy, isClosed, isClosedState, isOpen, isOpenState, openOf, overwritten, size}
+use Rattle.rules.specs.Drive.{blockAt, heldBy, isClosed, isOpen, isOpenState, openOf, overwritten, size}
 use Rattle.rules.specs.Effects.{Fills}
-use Rattle.rules.specs.LogPages.{closedList, descriptor, endMark, integrity, listLength, listOf, openMark, stateByte, wearIndex}
-use Rattle.survey.specs.Pass.{isListed, listMark, listMarkIn}
+use Rattle.rules.specs.LogPages.{closedList, descriptor, descriptorOf, endMark, listLength, listOf, stateByte, wearIndex}
+use Rattle.survey.specs.Pass.{isListed, listMark}
 use Rattle.survey.specs.Sight.{SeesList}
 use Rattle.survey.specs.declared.sight.Sight.{Sight}
 
@@ -132,19 +132,15 @@ whole-list {marks} {blocks} {n} b l e =
 
 -- ---- The whole list
 
--- The one byte of a descriptor, and the two lists, both in ascending number.
-abbrev markOf : Listed → Block → ℕ
-markOf Open b = openMark b
-markOf Closed b = integrity b
-
+-- The two lists, both in ascending number.
 abbrev listedTo : Table → ℕ → Listed → ℕ → List ℕ
 listedTo t d which n = numbersTo (λ i. isListed which d (blockAt t i)) n
 
 unfoldable pub listedBytes : Table → ℕ → Listed → List ℕ
-listedBytes t d which = listOf t (markOf which) (listedTo t d which (size t))
+listedBytes t d which = listOf t (listMark which) (listedTo t d which (size t))
 
 -- It is what List fills.
-pub fills-list : (t : Table) (d : ℕ) (which : Listed) → Fills (Listing d which) t (listedBytes t d which)
+pub fills-list : (t : Table) (d : ℕ) (which : Listed) → Fills (listBytes d which) t (listedBytes t d which)
 unfolding listedBytes closedList
 fills-list t d Open = record {
   order = numbersTo (λ n. openOf d (blockAt t n)) (size t);
@@ -163,65 +159,60 @@ listed-length t d Closed = ap length (fills-list t d Closed) ∙ closed-list-len
 -- The descriptors of a list, without the end mark.
 unfoldable descriptors : Table → (Block → ℕ) → List ℕ → List ℕ
 descriptors t mark [] = []
-descriptors t mark (n ∷ ns) = descriptor t mark n ++ descriptors t mark ns
+descriptors t mark (n ∷ ns) = descriptor (t .config) mark n (blockAt t n) ++ descriptors t mark ns
 
 -- A list is its descriptors and the end mark.
 with-end : (t : Table) (mark : Block → ℕ) (ns : List ℕ) → listOf t mark ns ≡ descriptors t mark ns ++ endMark
 unfolding descriptors listOf
 with-end t mark [] = refl
 with-end t mark (n ∷ ns) =
-    ap (λ (l : List ℕ). descriptor t mark n ++ l) (with-end t mark ns)
-    ∙ sym (append-assoc (descriptor t mark n) (descriptors t mark ns) endMark)
+    ap (λ (l : List ℕ). descriptor (t .config) mark n (blockAt t n) ++ l) (with-end t mark ns)
+    ∙ sym (append-assoc (descriptor (t .config) mark n (blockAt t n)) (descriptors t mark ns) endMark)
 
 -- One number more brings its descriptor.
 one-more : (t : Table) (mark : Block → ℕ) (ns : List ℕ) (n : ℕ)
-    → descriptors t mark (ns ++ (n ∷ [])) ≡ descriptors t mark ns ++ descriptor t mark n
+    → descriptors t mark (ns ++ (n ∷ [])) ≡ descriptors t mark ns ++ descriptor (t .config) mark n (blockAt t n)
 unfolding descriptors
-one-more t mark [] n = append-nil (descriptor t mark n)
+one-more t mark [] n = append-nil (descriptor (t .config) mark n (blockAt t n))
 one-more t mark (m ∷ ns) n =
-    ap (λ (l : List ℕ). descriptor t mark m ++ l) (one-more t mark ns n)
-    ∙ sym (append-assoc (descriptor t mark m) (descriptors t mark ns) (descriptor t mark n))
+    ap (λ (l : List ℕ). descriptor (t .config) mark m (blockAt t m) ++ l) (one-more t mark ns n)
+    ∙ sym (append-assoc (descriptor (t .config) mark m (blockAt t m)) (descriptors t mark ns)
+    (descriptor (t .config) mark n (blockAt t n)))
 
--- A block that is listed has its list's byte for a mark, which is no 0 and fits below the P/E index.
-record Marked (mark byte : ℕ) : Type 0 where
-  same : mark ≡ byte
+-- The mark of a block that is listed is no 0 and fits below the P/E index.
+record Marked (mark : ℕ) : Type 0 where
   least : 1 ≤ mark
   most : mark < 16
 
-marked : (which : Listed) (d : ℕ) (b : Block) → isListed which d b ≡ true → Marked (listMark b) (markOf which b)
+marked : (which : Listed) (d : ℕ) (b : Block) → isListed which d b ≡ true → Marked (listMark which b)
 marked Open d b e = go (b .state) (both (heldBy d b) (isOpen b) e .1)
   where
-    go : (s : State) → isOpenState s ≡ true → Marked (listMarkIn s) (stateByte s)
+    go : (s : State) → isOpenState s ≡ true → Marked (stateByte s)
     go state.Free h = clash true refl (sym h)
-    go (state.Open Erase) h = record { same = refl; least = omega arith; most = omega arith }
-    go (state.Open (Placement p)) h = record { same = refl; least = omega arith; most = omega arith }
+    go (state.Open Erase) h = record { least = omega arith; most = omega arith }
+    go (state.Open (Placement p)) h = record { least = omega arith; most = omega arith }
     go (state.Closed way) h = clash true refl (sym h)
-marked Closed d b e = go (b .state) (both (heldBy d b) (isClosed b) e .1)
-  where
-    go : (s : State) → isClosedState s ≡ true → Marked (listMarkIn s) (cond (isClosedState s) 1 0)
-    go state.Free h = clash true refl (sym h)
-    go (state.Open way) h = clash true refl (sym h)
-    go (state.Closed way) h = record { same = refl; least = omega arith; most = omega arith }
+marked Closed d b e = rw (both (heldBy d b) (isClosed b) e .1) (record { least = omega arith; most = omega arith })
 
 -- So the descriptors are those that the marks tell, ..
 marked-to : (t : Table) (d : ℕ) (which : Listed) (x : Sight) (marks : List ℕ) → SeesList t d which x marks → x .sound ≡ true
     → (n : ℕ)
     → n ≤ size t
-    → markedTo marks n ≡ descriptors t (markOf which) (listedTo t d which n)
+    → markedTo marks n ≡ descriptors t (listMark which) (listedTo t d which n)
 unfolding markedTo descriptors numbersTo
 marked-to t d which x marks s e zero l = refl
 marked-to t d which x marks s e (suc n) l =
     let before = marked-to t d which x marks s e n (omega arith) in
     let b = blockAt t n in
     let code = codeAt marks n in
-    let wear = wearIndex (t .config) (b .erases) in
+    let wear = wearIndex (t .config .rated) (b .erases) in
     let told = s .codes e n (omega arith) in
     by-test (isListed which d b)
     (λ p.
     let m = marked which d b p in
-    let sum : code ≡ listMark b + 16 * wear = told ∙ rw p in
+    let sum : code ≡ listMark which b + 16 * wear = told ∙ rw p in
     let index : code / 16 ≡ wear = omega (arith, sum, m .most) in
-    let byte : code % 16 ≡ markOf which b = omega (arith, sum, m .most, m .same) in
+    let byte : code % 16 ≡ listMark which b = omega (arith, sum, m .most) in
     let some : ¬ (code ≡ 0) = λ none. omega (arith, sum, none, m .least) in
     rw (p, one-more, ne-eqb code 0 some, index, byte, before))
     (λ p.

@@ -4,12 +4,11 @@ use mathlib.Core.Bool.{cond}
 use mathlib.Core.List.{List, [], _∷_, _++_}
 use lib.Dec.{eqb, leb}
 use Rattle.geometry.specs.Address.{isBlock, isDomainId}
-use Rattle.geometry.specs.Bytes.{littleEndian}
 use Rattle.geometry.specs.Questions.{Question, ask}
 use Rattle.model.specs.declared.command.Listed.{Listed}
 use Rattle.model.specs.declared.command.Listed.the-variants.{Closed, Open}
 use Rattle.rules.specs.Drive.{heldBy}
-use Rattle.rules.specs.LogPages.{endMark}
+use Rattle.rules.specs.LogPages.{descriptorOf, endMark}
 use Rattle.survey.specs.Marks.{mark}
 use Rattle.survey.specs.declared.sight.Sight.{Sight}
 
@@ -27,10 +26,6 @@ pageQuestions x d n room =
 abbrev pub lengthSeen : Sight → Listed → ℕ
 lengthSeen x Open = 8 * (x .opened + 1)
 lengthSeen x Closed = 8 * (x .held - x .opened + 1)
-
--- The fields of a descriptor.
-abbrev pub descriptorOf : ℕ → ℕ → ℕ → List ℕ
-descriptorOf n index mark = littleEndian 4 n ++ littleEndian 1 index ++ littleEndian 1 mark ++ littleEndian 2 0
 
 -- What the marks tell of block n for a list: 0, or its mark and 16 times its P/E index.
 abbrev pub codeAt : List ℕ → ℕ → ℕ

@@ -10,14 +10,14 @@ ghost use mathlib.Core.List.{List};
 ghost use mathlib.Core.Path.{_≡_};
 ghost use Prim.Native.Nat.{ℕ, _+_, _≤_};
 ghost use lib.ListN.{length};
-ghost use Rattle.log_pages.specs.LogPages.{descriptorOf, lengthSeen, markedBytes};
+ghost use Rattle.log_pages.specs.LogPages.{lengthSeen, markedBytes};
 ghost use Rattle.model.specs.declared.command.Command.the-variants.{List as Listing};
 ghost use Rattle.model.specs.declared.table.Table.{Table};
 ghost use Rattle.rules.specs.Drive.{overwritten};
-ghost use Rattle.rules.specs.Effects.{Serves};
+ghost use Rattle.rules.specs.LogPages.{descriptorOf};
 ghost use Rattle.survey.specs.Marks.{markCount};
 ghost use Rattle.survey.specs.Sight.{Sees, SeesList};
-ghost use Rattle.tables.specs.Serving.{answering, drive, served};
+ghost use Rattle.tables.specs.Serving.{ServesCommand, answering, served};
 
 // Of the survey's marks: where those of the blocks begin, and what a descriptor is multiplied by in its block's mark.
 const LINKS: usize = 544;
@@ -69,7 +69,7 @@ fn list_length(sight: Sight, listed: Listed) -> u64
 pub fn list(sight: Sight, domain: u64, listed: Listed, marks: &[u32], bytes: &mut [u8]) -> Answer
     requires { ⌜ ((t : Table) × Sees t domain sight × SeesList t domain listed sight (now marks)) ⌝ }
     requires { ⌜ length (now marks) ≡ markCount ⌝ }
-    ensures { λ r. ⌜ ((t : Table) (store words : List ℕ) → Sees t domain sight → SeesList t domain listed sight (now (marks .entry)) → Serves (drive t store) (Listing domain listed) words (now (bytes .entry)) (served (answering t r) store words (now (bytes .exit)))) ⌝ }
+    ensures { λ r. ⌜ ((t : Table) (store words : List ℕ) → Sees t domain sight → SeesList t domain listed sight (now (marks .entry)) → ServesCommand t (Listing domain listed) store words (now (bytes .entry)) (served (answering t r) store words (now (bytes .exit)))) ⌝ }
 {
     if !sight.sound {
         return Answer::Refused(Refusal::Unsound);

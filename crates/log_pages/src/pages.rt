@@ -1,8 +1,5 @@
 // Page: Super Block Information.
-use crate::fields::integrity;
 use crate::fields::placement_field;
-use crate::fields::state_byte;
-use crate::fields::wear_index;
 use crate::fields::written_if_open;
 use buffers::put_field;
 use geometry::Config;
@@ -13,7 +10,10 @@ use model::Refusal;
 use survey::Sight;
 use survey::domain_verdict;
 use tables::Verdict;
+use tables::integrity;
 use tables::is_held;
+use tables::state_byte;
+use tables::wear_index;
 ghost use mathlib.Core.Bool.{true};
 ghost use mathlib.Core.List.{List};
 ghost use mathlib.Core.Path.{_≡_};
@@ -21,20 +21,20 @@ ghost use Prim.Native.Nat.{ℕ, _≤_};
 ghost use lib.ListN.{drop, length, take};
 ghost use Rattle.geometry.specs.Questions.{firstNo};
 ghost use Rattle.geometry.specs.Shape.{withinLimits};
+ghost use Rattle.geometry.specs.declared.shape.Config.{Config};
 ghost use Rattle.log_pages.specs.LogPages.{pageQuestions};
 ghost use Rattle.model.specs.declared.command.Command.the-variants.{Page};
 ghost use Rattle.model.specs.declared.table.Table.{Table};
-ghost use Rattle.rules.specs.Drive.{blockAt, overwritten};
-ghost use Rattle.rules.specs.Effects.{Serves};
+ghost use Rattle.rules.specs.Drive.{overwritten};
 ghost use Rattle.rules.specs.LogPages.{page};
 ghost use Rattle.survey.specs.Sight.{Seen, Sees, SeesBlock};
-ghost use Rattle.tables.specs.Serving.{answering, drive, served};
+ghost use Rattle.tables.specs.Serving.{ServesCommand, answering, served};
 ghost use Rattle.tables.specs.Verdicts.{verdictNumber};
 
 // Which block it is and whose.
 fn put_identity(bytes: &mut [u8], number: u64, block: Block)
     requires { ⌜ 256 ≤ length (now bytes) ⌝ }
-    ensures { λ _. ⌜ ((t : Table) → block ≡ blockAt t number → now (bytes .exit) ≡ overwritten 0 (take 12 (page t number)) (now (bytes .entry))) ⌝ }
+    ensures { λ _. ⌜ ((c : Config) → now (bytes .exit) ≡ overwritten 0 (take 12 (page c number block)) (now (bytes .entry))) ⌝ }
 {
     let state = block.state;
     put_field(bytes, 0, 2, 1);
@@ -49,9 +49,9 @@ fn put_identity(bytes: &mut [u8], number: u64, block: Block)
 fn put_counts(bytes: &mut [u8], config: Config, block: Block)
     requires { ⌜ 256 ≤ length (now bytes) ⌝ }
     requires { ⌜ withinLimits config ≡ true ⌝ }
-    ensures { λ _. ⌜ ((t : Table) (n : ℕ) → config ≡ t .config → block ≡ blockAt t n → now (bytes .exit) ≡ overwritten 12 (drop 12 (page t n)) (now (bytes .entry))) ⌝ }
+    ensures { λ _. ⌜ ((n : ℕ) → now (bytes .exit) ≡ overwritten 12 (drop 12 (page config n block)) (now (bytes .entry))) ⌝ }
 {
-    put_field(bytes, 12, 1, wear_index(config, block.erases));
+    put_field(bytes, 12, 1, wear_index(config.rated, block.erases));
     put_field(bytes, 13, 1, integrity(block));
     put_field(bytes, 14, 2, 0);
     put_field(bytes, 16, 4, adus_per_block(config).0);
@@ -73,7 +73,7 @@ fn page_verdict(sight: Sight, domain: u64, block: u64, room: usize) -> Verdict
 // Super Block Information of a held block, 256 bytes.
 pub fn page(sight: Sight, domain: u64, block: u64, bytes: &mut [u8]) -> Answer
     requires { ⌜ Seen domain sight ⌝ }
-    ensures { λ r. ⌜ ((t : Table) (store words : List ℕ) → Sees t domain sight → SeesBlock t block sight → Serves (drive t store) (Page domain block) words (now (bytes .entry)) (served (answering t r) store words (now (bytes .exit)))) ⌝ }
+    ensures { λ r. ⌜ ((t : Table) (store words : List ℕ) → Sees t domain sight → SeesBlock t block sight → ServesCommand t (Page domain block) store words (now (bytes .entry)) (served (answering t r) store words (now (bytes .exit)))) ⌝ }
 {
     if !sight.sound {
         return Answer::Refused(Refusal::Unsound);

@@ -17,7 +17,6 @@ use Rattle.model.specs.declared.command.Listed.{Listed}
 use Rattle.model.specs.declared.command.Listed.the-variants as listed
 use Rattle.model.specs.declared.table.Table.{Table}
 use Rattle.rules.specs.Drive.{blockAt, size}
-use Rattle.rules.specs.Effects.{Serves}
 use Rattle.survey.proofs.Outcomes.{left-as-is}
 use Rattle.survey.proofs.Seeing.{sound-limits}
 use Rattle.survey.specs.Marks.{markCount}
@@ -26,7 +25,7 @@ use Rattle.survey.specs.declared.pass.Subject.{Subject}
 use Rattle.survey.specs.declared.sight.Sight.{Sight}
 use Rattle.survey.specs.declared.sight.View.{View}
 use Rattle.tables.specs.Changing.{leaving, outcomeServed}
-use Rattle.tables.specs.Serving.{answering, drive, served}
+use Rattle.tables.specs.Serving.{ServesCommand, answering, served}
 use Rattle.tables.specs.declared.change.Outcome.{Outcome}
 use Rattle.tables.specs.declared.served.Served.{Served}
 
@@ -98,8 +97,8 @@ sees-read t d address r s b = record {
 
 -- An answer that changes nothing, as an outcome.
 pub left : (t : Table) (k : Command) (answer : Answer) (o : Outcome) (store words bytes store′ words′ bytes′ : List ℕ) → o ≡ leaving answer
-    → Serves (drive t store) k words bytes (served (answering t answer) store′ words′ bytes′)
-    → Serves (drive t store) k words bytes (served (outcomeServed t o) store′ words′ bytes′)
+    → ServesCommand t k store words bytes (served (answering t answer) store′ words′ bytes′)
+    → ServesCommand t k store words bytes (served (outcomeServed t o) store′ words′ bytes′)
 left t k answer o store words bytes store′ words′ bytes′ is s =
-    subst (λ (z : Served). Serves (drive t store) k words bytes (served z store′ words′ bytes′))
+    subst (λ (z : Served). ServesCommand t k store words bytes (served z store′ words′ bytes′))
     (sym (ap (outcomeServed t) is ∙ left-as-is t answer)) s

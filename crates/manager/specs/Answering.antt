@@ -7,11 +7,10 @@ use lib.Dec.{eqb}
 use Rattle.manager.specs.Subjects.{subjectOf}
 use Rattle.model.specs.declared.command.Command.{Command}
 use Rattle.model.specs.declared.table.Table.{Table}
-use Rattle.rules.specs.Effects.{Serves}
 use Rattle.survey.specs.Sight.{Views}
 use Rattle.survey.specs.declared.sight.View.{View}
 use Rattle.tables.specs.Changing.{outcomeServed}
-use Rattle.tables.specs.Serving.{drive, served}
+use Rattle.tables.specs.Serving.{ServesCommand, served}
 use Rattle.tables.specs.declared.change.Change.{Change}
 use Rattle.tables.specs.declared.change.Outcome.{Outcome}
 
@@ -22,7 +21,7 @@ Viewed v command marks = (v .subject ≡ subjectOf (v .config) command) × ((t :
 -- Whatever table it was, the command is served in it.
 unfoldable pub Answered : View → Command → List ℕ → List ℕ → List ℕ → List ℕ → Outcome → List ℕ → List ℕ → List ℕ → Type 0
 Answered v command marks store words bytes r store′ words′ bytes′ =
-    (t : Table) → Views t v marks → Serves (drive t store) command words bytes (served (outcomeServed t r) store′ words′ bytes′)
+    (t : Table) → Views t v marks → ServesCommand t command store words bytes (served (outcomeServed t r) store′ words′ bytes′)
 
 -- Where a change's domain has its record; 16 is no domain's place.
 abbrev pub changedPlace : Change → ℕ

@@ -10,9 +10,7 @@ use model::Command;
 use model::Table;
 use survey::no_marks;
 use tables::Served;
-ghost use mathlib.Core.Path.{_≡_};
-ghost use Rattle.rules.specs.Effects.{Serves};
-ghost use Rattle.tables.specs.Serving.{answering, drive, served};
+ghost use Rattle.tables.specs.Serving.{ServesCommand, answering, served};
 
 // The command's answer; the table is changed in place. Writes and Read fill the words, Page and List the
 // bytes; after a refusal the table and all that is lent hold what they held before.
@@ -23,7 +21,7 @@ pub fn serve_in(
     words: &mut [u64],
     bytes: &mut [u8],
 ) -> Answer
-    ensures { λ r. ⌜ Serves (drive (now (table .entry)) (now (store .entry))) command (now (words .entry)) (now (bytes .entry)) (served (answering (now (table .exit)) r) (now (store .exit)) (now (words .exit)) (now (bytes .exit))) ⌝ }
+    ensures { λ r. ⌜ ServesCommand (now (table .entry)) command (now (store .entry)) (now (words .entry)) (now (bytes .entry)) (served (answering (now (table .exit)) r) (now (store .exit)) (now (words .exit)) (now (bytes .exit))) ⌝ }
 {
     let config = table.config;
     let begin = begun(config, command);
@@ -56,7 +54,7 @@ pub fn serve(
     words: &mut [u64],
     bytes: &mut [u8],
 ) -> Served
-    ensures { λ r. ⌜ Serves (drive table (now (store .entry))) command (now (words .entry)) (now (bytes .entry)) (served r (now (store .exit)) (now (words .exit)) (now (bytes .exit))) ⌝ }
+    ensures { λ r. ⌜ ServesCommand table command (now (store .entry)) (now (words .entry)) (now (bytes .entry)) (served r (now (store .exit)) (now (words .exit)) (now (bytes .exit))) ⌝ }
 {
     let mut changed = table;
     let answer = serve_in(&mut changed, command, store, words, bytes);

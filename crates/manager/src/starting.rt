@@ -1,5 +1,6 @@
 // Starting a drive.
 use geometry::Config;
+use geometry::no_config;
 use geometry::within_limits;
 use model::Answer;
 use model::Refusal;
@@ -39,17 +40,8 @@ pub fn start(config: Config) -> Started
             table: empty_table(config),
         };
     }
-    let none = Config {
-        pages: 0,
-        dies: 0,
-        planes: 0,
-        adus: 0,
-        blocks: 0,
-        rated: 0,
-        period: 0,
-    };
     Started {
         answer: Answer::Refused(Refusal::Limits),
-        table: empty_table(none),
+        table: empty_table(no_config()),
     }
 }

@@ -43,9 +43,13 @@ closedFrom (Open way) b = withState (Closed way) 0 b
 unfoldable pub closed : Block → Block
 closed b = closedFrom (b .state) b
 
+-- The record of a Free block, which is clear but for the P/E count.
+abbrev pub freeBlock : ℕ → Block
+freeBlock erases = record { state = Free; holder = 0; written = adus 0; left = 0; erases = erases; serial = 0 }
+
 -- Freeing: all of the record is cleared but the P/E count.
 abbrev pub freed : Block → Block
-freed b = record { state = Free; holder = 0; written = adus 0; left = 0; erases = b .erases; serial = 0 }
+freed b = freeBlock (b .erases)
 
 -- Writing on: an open block has so many ADUs more, no more than its capacity, and is Closed at its last one.
 abbrev pub writtenFrom : State → Adus → Adus → Block → Block

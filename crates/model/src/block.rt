@@ -2,7 +2,7 @@
 use geometry::Adus;
 ghost use mathlib.Core.Path.{_≡_};
 ghost use Prim.Native.Nat.{_+_, min};
-ghost use Rattle.model.specs.Blocks.{closed, countedDown, freed, opened, writtenOn};
+ghost use Rattle.model.specs.Blocks.{closed, countedDown, freeBlock, freed, opened, writtenOn};
 
 // How a block was opened.
 pub enum Way {
@@ -43,6 +43,20 @@ fn filled_to(written: u64, count: u64, capacity: u64) -> u64
         written + count
     } else {
         capacity
+    }
+}
+
+// The record of a Free block, which is clear but for the P/E count.
+pub fn free_block(erases: u32) -> Block
+    ensures { λ r. ⌜ r ≡ freeBlock erases ⌝ }
+{
+    Block {
+        state: State::Free,
+        holder: 0,
+        written: Adus(0),
+        left: 0,
+        erases,
+        serial: 0,
     }
 }
 
@@ -116,14 +130,7 @@ impl Block {
     pub fn freed(self) -> Block
         ensures { λ r. ⌜ r ≡ freed self ⌝ }
     {
-        Block {
-            state: State::Free,
-            holder: 0,
-            written: Adus(0),
-            left: 0,
-            erases: self.erases,
-            serial: 0,
-        }
+        free_block(self.erases)
     }
 
     // So many seconds later: an open block has them less, and is Closed where none are left.

@@ -10,6 +10,7 @@ pub use answer::Refusal;
 pub use block::Block;
 pub use block::State;
 pub use block::Way;
+pub use block::free_block;
 pub use command::Command;
 pub use command::Listed;
 pub use table::Domain;

@@ -6,10 +6,9 @@ use mathlib.Core.Option.{some}
 use mathlib.Core.Path.{_≡_, refl, sym, ap, subst, _∙_}
 use native.Mathlib.Omega.{arith}
 use lib.Dec.{ltb}
-use lib.ListN.{drop, getD, length}
+use lib.ListN.{getD, length}
 use lib.Seq.{getD-set-other, getD-set-same}
 use borrow.Author.Tests.{eqb-true, leb-true, ltb-false, ltb-true}
-use Rattle.blocks.specs.Opening.{freeBlock}
 use Rattle.geometry.proofs.Laws.Questions.{positive}
 use Rattle.geometry.proofs.Laws.Shape.{both, by-test, is-between}
 use Rattle.geometry.specs.Questions.{firstNo}
@@ -17,6 +16,7 @@ use Rattle.geometry.specs.Shape.{adus, adusPerBlock, storeLength}
 use Rattle.geometry.specs.declared.shape.Adus.{Adus}
 use Rattle.geometry.specs.declared.shape.Config.{Config}
 use Rattle.model.specs.declared.answer.Answer.the-variants.{Done}
+use Rattle.model.specs.Blocks.{freeBlock}
 use Rattle.model.specs.declared.block.Block.{Block}
 use Rattle.model.specs.declared.block.State.{State}
 use Rattle.model.specs.declared.block.State.the-variants.{Closed, Free, Open}
@@ -29,13 +29,14 @@ use Rattle.placements.specs.Asking.{placementArguments, placementState}
 use Rattle.placements.specs.Placing.{MayPlace, Places, blocksIn, roomSeen}
 use Rattle.rules.proofs.Counting.{clash}
 use Rattle.rules.proofs.Drive.{overwritten-nothing}
-use Rattle.rules.proofs.Kept.Facts.{StateFacts}
+use Rattle.rules.proofs.Kept.Facts.{StateFacts, free-record}
 use Rattle.rules.proofs.Kept.Onwards.{OpenTo, open-to}
 use Rattle.rules.proofs.Kept.Tested.{facts-of}
-use Rattle.rules.proofs.Questions.{yes-at}
+use Rattle.rules.proofs.Questions.{after, yes-in}
 use Rattle.rules.specs.Blocks.{userAddresses, writtenByPlacement}
+use Rattle.rules.specs.Calls.{calling}
 use Rattle.rules.specs.Drive.{blockAt, clearBlock, clearDomain, domainAt, isFree, isFreeState, isPlacedState, openBlock, size, withBlock}
-use Rattle.rules.specs.Effects.{Serves, effect, lengthsOf}
+use Rattle.rules.specs.Effects.{effect}
 use Rattle.rules.specs.Questions.{isCount, questions, userAddressesFit}
 use Rattle.rules.specs.Soundness.{sound}
 use Rattle.survey.proofs.Seeing.{limits-seen}
@@ -45,7 +46,7 @@ use Rattle.survey.specs.declared.sight.Sight.{Sight}
 use Rattle.tables.proofs.Answering.{accepted-call, sound-verdict}
 use Rattle.tables.specs.Changes.{ErasesKnown, chosen}
 use Rattle.tables.specs.Changing.{changedBy, outcomeServed}
-use Rattle.tables.specs.Serving.{answering, drive, served}
+use Rattle.tables.specs.Serving.{ServesCommand, answering, drive, served}
 use Rattle.tables.specs.declared.change.Change.{Change}
 use Rattle.tables.specs.declared.choice.Choice.{Choice}
 use Rattle.tables.specs.declared.choice.Choice.the-variants.{Block as Chosen, Nothing}
@@ -54,19 +55,9 @@ use Rattle.transfers.specs.Transfers.{Wrote}
 -- ---- Blocks of a sound table
 
 -- A Free one's record is clear but for its P/E count.
-clear : (state : State) (holder : ℕ) (written : Adus) (left erases serial : ℕ) → state ≡ Free → holder ≡ 0 → written .0 ≡ 0 → left ≡ 0 → serial ≡ 0
-    → _≡_ {A = Block} (record { state = state; holder = holder; written = written; left = left; erases = erases; serial = serial }) (freeBlock erases)
-clear state holder written left erases serial s h w l k = rw (s, h, ap adus w, l, k)
-
-free-record : (t : Table) (b : Block) (s : State) → b .state ≡ s → isFreeState s ≡ true → StateFacts t s b → b ≡ freeBlock (b .erases)
-free-record t b Free e free f =
-    clear (b .state) (b .holder) (b .written) (b .left) (b .erases) (b .serial) e (f .holder) (f .written) (f .left) (f .serial)
-free-record t b (Open way) e free f = absurd (true≢false (sym free))
-free-record t b (Closed way) e free f = absurd (true≢false (sym free))
-
 free-block-record : (t : Table) (n : ℕ) → sound t ≡ true → n < size t → isFree (blockAt t n) ≡ true → blockAt t n ≡ freeBlock (blockAt t n .erases)
 free-block-record t n whole l free =
-    let b = blockAt t n in free-record t b (b .state) refl free (facts-of (drive t []) whole .blocks n l)
+    free-record t (blockAt t n) free (facts-of (drive t []) whole .blocks n l)
 
 -- One that is open for a placement has room and is not Free.
 placed-room : (t : Table) (p : ℕ) (s : State) (b : Block) → isPlacedState p s ≡ true → StateFacts t s b → b .written .0 < adusPerBlock (t .config) .0
@@ -137,7 +128,7 @@ pub place-fits : (t : Table) (entries room d p start : ℕ) (count : Adus) (x : 
 unfolding positive placementArguments placementState
 place-fits t entries room d p start count x pass =
     let qs = placementArguments x entries room d p count ++ placementState t x d start count in
-    (yes-at 5 qs refl pass, leb-true (count .0) room (yes-at 4 qs refl pass))
+    (yes-in 8 qs refl pass, leb-true (count .0) room (yes-in 7 qs refl pass))
 
 -- The placement is one of at most 16.
 pub few-placements : (t : Table) (entries room d p start : ℕ) (count : Adus) (x : Sight) → Sees t d x → x .sound ≡ true
@@ -145,11 +136,11 @@ pub few-placements : (t : Table) (entries room d p start : ℕ) (count : Adus) (
 unfolding positive placementArguments placementState
 few-placements t entries room d p start count x s e pass =
     let qs = placementArguments x entries room d p count ++ placementState t x d start count in
-    let between = is-between 1 16 d (yes-at 1 qs refl pass) in
-    let exists : domainAt t d .exists ≡ true = ap (λ (r : Domain). r .exists) (sym (s .same-domain)) ∙ yes-at 2 qs refl pass in
+    let between = is-between 1 16 d (yes-in 4 qs refl pass) in
+    let exists : domainAt t d .exists ≡ true = ap (λ (r : Domain). r .exists) (sym (s .same-domain)) ∙ yes-in 5 qs refl pass in
     let few = facts-of (drive t []) (sym (s .tested) ∙ e) .domains d (between .least) (between .most) .existing exists .few-placements in
     let same = ap (λ (r : Domain). r .placements) (s .same-domain) in
-    omega (arith, ltb-true p (x .domain .placements) (both (ltb p (x .domain .placements)) (isCount count) (yes-at 3 qs refl pass) .0), same, few)
+    omega (arith, ltb-true p (x .domain .placements) (both (ltb p (x .domain .placements)) (isCount count) (yes-in 6 qs refl pass) .0), same, few)
 
 -- A write whose questions are answered yes may be done, ..
 pub may-place : (t : Table) (entries room d p start : ℕ) (count : Adus) (x : Sight) → Sees t d x → SeesPlacement t d p x → x .sound ≡ true
@@ -159,17 +150,17 @@ unfolding positive placementArguments placementState
 may-place t entries room d p start count x s q e pass =
     let qs = placementArguments x entries room d p count ++ placementState t x d start count in
     let new = blocksIn (x .config) (count .0 - roomSeen x) in
-    let counted = is-between 1 256 (count .0) (both (ltb p (x .domain .placements)) (isCount count) (yes-at 3 qs refl pass) .1) in
+    let counted = is-between 1 256 (count .0) (both (ltb p (x .domain .placements)) (isCount count) (yes-in 6 qs refl pass) .1) in
     let whole = sym (s .tested) ∙ e in
     let opened : (n : ℕ) → x .found ≡ found.Block n → openBlock t d p ≡ some n = λ n f. sym (q .same-open e) ∙ ap foundIn f in
     let last : x .domain .last ≡ domainAt t d .last = ap (λ (r : Domain). r .last) (s .same-domain) in
     record {
       within = limits-seen t d x s e;
-      id = yes-at 1 qs refl pass;
-      all-entries = eqb-true entries (storeLength (x .config) .0) (yes-at 0 qs refl pass);
+      id = yes-in 4 qs refl pass;
+      all-entries = eqb-true entries (storeLength (x .config) .0) (yes-in 3 qs refl pass);
       some-written = counted .least;
       most = counted .most;
-      serials = omega (arith, last, leb-true (domainAt t d .last + new) 4294967295 (yes-at 7 qs refl pass));
+      serials = omega (arith, last, leb-true (domainAt t d .last + new) 4294967295 (yes-in 12 qs refl pass));
       open-inside = λ n f. subst (λ (c : Config). n < c .blocks) (sym (s .same-config)) (is-open-to t d p n (opened n f) .0);
       open-room = λ n f.
           let o = is-open-to t d p n (opened n f) in
@@ -194,7 +185,7 @@ places t entries room d p start count x s q f e pass =
       seen = record { open-record = λ n is. sym (q .open-block e n (sym (q .same-open e) ∙ is)) };
       held = λ n is. placed-held p (blockAt t n .state) (is-open-to t d p n (sym (q .same-open e) ∙ is) .2);
       choices = record {
-        owned = existing-owned t d (ap (λ (r : Domain). r .exists) (sym (s .same-domain)) ∙ yes-at 2 qs refl pass);
+        owned = existing-owned t d (ap (λ (r : Domain). r .exists) (sym (s .same-domain)) ∙ yes-in 5 qs refl pass);
         first-is = record {
           is-chosen = f .first-chosen e;
           record-is = λ n erases c.
@@ -211,15 +202,15 @@ places t entries room d p start count x s q f e pass =
     }
 
 -- .. and this is what it hands back.
-pub place-done : (t : Table) (store words bytes : List ℕ) (d p start : ℕ) (count : Adus) (change : Change) (after filled : List ℕ) → sound t ≡ true
-    → firstNo (drop 1 (questions (drive t store) (lengthsOf (drive t store) words bytes) (WriteByPlacement d p start count))) ≡ 0
-    → Wrote (writtenByPlacement d p (userAddresses start (count .0)) (drive t store)) words (drive (changedBy change t) after) filled
-    → Serves (drive t store) (WriteByPlacement d p start count) words bytes
-    (served (outcomeServed t (record { answer = Done; change = change })) after filled bytes)
+pub place-done : (t : Table) (store words bytes : List ℕ) (d p start : ℕ) (count : Adus) (change : Change) (left filled : List ℕ) → sound t ≡ true
+    → firstNo (after 2 (questions (drive t store) (calling (WriteByPlacement d p start count) store words bytes))) ≡ 0
+    → Wrote (writtenByPlacement d p (userAddresses start (count .0)) (drive t store)) words (drive (changedBy change t) left) filled
+    → ServesCommand t (WriteByPlacement d p start count) store words bytes
+    (served (outcomeServed t (record { answer = Done; change = change })) left filled bytes)
 unfolding effect
-place-done t store words bytes d p start count change after filled whole pass wrote =
+place-done t store words bytes d p start count change left filled whole pass wrote =
     let v = drive t store in
-    let k = WriteByPlacement d p start count in
-    accepted-call v k words bytes (served (answering (changedBy change t) Done) after filled bytes) []
-    (sound-verdict v (lengthsOf v words bytes) k whole ∙ pass)
+    let call = calling (WriteByPlacement d p start count) store words bytes in
+    accepted-call v call words bytes (served (answering (changedBy change t) Done) left filled bytes) []
+    (sound-verdict v call whole ∙ pass)
     refl (wrote .leaves) (wrote .fills) refl (sym (overwritten-nothing bytes))

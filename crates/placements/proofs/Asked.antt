@@ -5,7 +5,6 @@ use mathlib.Core.List.{List, _++_}
 use mathlib.Core.Option.{some}
 use mathlib.Core.Path.{_≡_, refl, sym, ap, _∙_}
 use lib.Dec.{ltb}
-use lib.ListN.{drop}
 use Rattle.geometry.proofs.Laws.Shape.{by-test}
 use Rattle.geometry.specs.Address.{isDomainId}
 use Rattle.geometry.specs.Questions.{firstNo}
@@ -19,7 +18,9 @@ use Rattle.model.specs.declared.table.Table.{Table}
 use Rattle.placements.proofs.Stepping.{new-for}
 use Rattle.placements.specs.Asking.{mayOpenOf, mayOpenSeen, placementArguments, placementState}
 use Rattle.placements.specs.Placing.{blocksIn, roomOf, roomSeen}
+use Rattle.rules.proofs.Questions.{after}
 use Rattle.rules.specs.Blocks.{newBlocks, roomIn}
+use Rattle.rules.specs.Calls.{lending}
 use Rattle.rules.specs.Drive.{openBlock, openCount}
 use Rattle.rules.specs.Questions.{mayOpenFor, questions}
 use Rattle.survey.specs.Sight.{Sees, SeesPlacement, foundIn}
@@ -27,7 +28,6 @@ use Rattle.survey.specs.declared.sight.Found.{Found}
 use Rattle.survey.specs.declared.sight.Found.the-variants as found
 use Rattle.survey.specs.declared.sight.Sight.{Sight}
 use Rattle.tables.specs.Serving.{drive}
-use Rattle.tables.specs.Verdicts.{lending}
 
 module _ (t : Table) (d p : ℕ) (x : Sight) (s : Sees t d x) (q : SeesPlacement t d p x) (e : x .sound ≡ true) where
   -- The room of the open block is the rules', ..
@@ -61,7 +61,7 @@ module _ (t : Table) (d p : ℕ) (x : Sight) (s : Sees t d x) (q : SeesPlacement
 
   pub placement-asked : (store : List ℕ) (entries room bytes start : ℕ) (count : Adus)
       → firstNo (placementArguments x entries room d p count ++ placementState t x d start count)
-      ≡ firstNo (drop 1 (questions (drive t store) (lending entries room bytes) (WriteByPlacement d p start count)))
+      ≡ firstNo (after 2 (questions (drive t store) (lending (WriteByPlacement d p start count) entries room bytes)))
   unfolding firstNo questions placementArguments placementState
   placement-asked store entries room bytes start count =
       rw (new-seen (count .0)) (by-test (isDomainId d)

@@ -21,9 +21,7 @@ use Rattle.rules.specs.Blocks.{Written, chosenBlock, openedFor, userAddresses, 
 use Rattle.rules.specs.Drive.{Drive, blockAt, clearBlock, domainAt, isFree, overwritten, size, withBlock, withDomain}
 use Rattle.tables.specs.Serving.{drive}
 use Rattle.transfers.specs.Transfers.{Wrote}
-use Rattle.tables.specs.Changes.{chosen}
 use Rattle.tables.specs.declared.choice.Choice.{Choice}
-use Rattle.tables.specs.declared.choice.Choice.the-variants.{Nothing}
 use Rattle.placements.proofs.Tables.{own-domain, put-none, put-one, set-twice}
 use Rattle.placements.specs.Placing.{filledTable, nothingWritten, oneStep}
 

@@ -6,10 +6,10 @@ use mathlib.Core.Option.{Option, none, some}
 use mathlib.Core.Path.{_≡_}
 use lib.Dec.{eqb, ltb}
 use lib.ListN.{length}
-use Rattle.blocks.specs.Opening.{freeBlock}
 use Rattle.geometry.specs.Address.{isDomainId}
 use Rattle.geometry.specs.Shape.{adusPerBlock, storeLength, withinLimits}
 use Rattle.geometry.specs.declared.shape.Config.{Config}
+use Rattle.model.specs.Blocks.{freeBlock}
 use Rattle.model.specs.declared.block.Block.{Block}
 use Rattle.model.specs.declared.block.Way.the-variants.{Placement}
 use Rattle.model.specs.declared.table.Domain.{Domain}

@@ -3,7 +3,6 @@
 use crate::room::room_in;
 use crate::room::smaller;
 use crate::room::without;
-use blocks::free_block;
 use blocks::opened_for;
 use buffers::user_address;
 use geometry::Adus;
@@ -12,6 +11,7 @@ use geometry::adus_per_block;
 use model::Block;
 use model::Domain;
 use model::Way;
+use model::free_block;
 use survey::Found;
 use survey::Sight;
 use tables::Change;

@@ -27,11 +27,10 @@ ghost use Rattle.geometry.specs.Shape.{withinLimits};
 ghost use Rattle.model.specs.declared.command.Command.the-variants.{WriteByPlacement};
 ghost use Rattle.model.specs.declared.table.Table.{Table};
 ghost use Rattle.placements.specs.Asking.{mayOpenSeen, placementArguments, placementState};
-ghost use Rattle.rules.specs.Effects.{Serves};
 ghost use Rattle.rules.specs.Questions.{isCount};
 ghost use Rattle.survey.specs.Sight.{Seen, Sees, SeesChoice, SeesPlacement};
 ghost use Rattle.tables.specs.Changing.{outcomeServed};
-ghost use Rattle.tables.specs.Serving.{drive, served};
+ghost use Rattle.tables.specs.Serving.{ServesCommand, served};
 ghost use Rattle.tables.specs.Verdicts.{verdictNumber};
 
 // 3 to 7.
@@ -109,7 +108,7 @@ pub fn write_by_placement(
     words: &mut [u64],
 ) -> Outcome
     requires { ⌜ ((t : Table) × Sees t domain sight × SeesPlacement t domain placement sight × SeesChoice t sight) ⌝ }
-    ensures { λ r. ⌜ ((t : Table) (bytes : List ℕ) → Sees t domain sight → SeesPlacement t domain placement sight → SeesChoice t sight → Serves (drive t (now (store .entry))) (WriteByPlacement domain placement start count) (now (words .entry)) bytes (served (outcomeServed t r) (now (store .exit)) (now (words .exit)) bytes)) ⌝ }
+    ensures { λ r. ⌜ ((t : Table) (bytes : List ℕ) → Sees t domain sight → SeesPlacement t domain placement sight → SeesChoice t sight → ServesCommand t (WriteByPlacement domain placement start count) (now (store .entry)) (now (words .entry)) bytes (served (outcomeServed t r) (now (store .exit)) (now (words .exit)) bytes)) ⌝ }
 {
     if !sight.sound {
         return refusal(Refusal::Unsound);

@@ -1,11 +1,11 @@
 -- The claims about every call and about whole lists of calls, over the rules alone. Nothing is proved here: each claim names its proof.
-use Prim.Native.Nat.{ℕ, _+_, _≤_, _<_}
+use Prim.Native.Nat.{ℕ, suc, _+_, _≤_, _<_}
 use mathlib.Core.Bool.{true, false}
 use mathlib.Core.List.{List}
 use mathlib.Core.Option.{some}
 use mathlib.Core.Path.{_≡_, sym, subst}
 use lib.Dec.{eqb, leb}
-use lib.ListN.{length, take}
+use lib.ListN.{getD, length, take}
 use Rattle.geometry.specs.Address.{isDomainId}
 use Rattle.geometry.specs.Shape.{storeLength, withinLimits}
 use Rattle.geometry.specs.declared.shape.Adus.{Adus}
@@ -13,17 +13,18 @@ use Rattle.geometry.specs.declared.shape.Config.{Config}
 use Rattle.model.specs.declared.command.Command.{Command}
 use Rattle.model.specs.declared.command.Command.the-variants.{Erase, Pulse, WriteByPlacement}
 use Rattle.rules.specs.Blocks.{anyBlock, chosenBlock, newBlocks}
+use Rattle.rules.specs.Calls.{Call, _asking_, calling, ownDomain}
 use Rattle.rules.specs.Claims.{Guaranteed, LentOwn, Shaped, StillSound}
-use Rattle.rules.specs.Countdown.{closesByPulse, elapsed}
+use Rattle.rules.specs.Countdown.{Expires, closesByPulse, elapsed}
 use Rattle.rules.specs.Drive.{Drive, blockAt, heldCount, isOpen, size}
-use Rattle.rules.specs.Effects.{Served, Serves, driveAfter, lengthsOf, verdict, wordsFilled}
+use Rattle.rules.specs.Effects.{Served, Serves, step, verdict, wordsFilled}
 use Rattle.rules.specs.Example.{NotEmpty}
 use Rattle.rules.specs.Noninterference.{Exchange, Indistinguishable, Replied, calls, fullyReserved, inputs, isAllowed, reservesAll}
-use Rattle.rules.specs.Questions.{Lengths}
-use Rattle.rules.specs.Runs.{Call, begun, ownDomain, reference, step}
+use Rattle.rules.specs.Runs.{begun, reference}
 use Rattle.rules.specs.Soundness.{sound}
 use Rattle.rules.proofs.Countdown as countdowns
 use Rattle.rules.proofs.Example as example
+use Rattle.rules.proofs.Expiry as expiries
 use Rattle.rules.proofs.Kept.Calls as kept
 use Rattle.rules.proofs.Noninterference.Moments as moments
 use Rattle.rules.proofs.Noninterference.Unasked.{unasked}
@@ -31,39 +32,40 @@ use Rattle.rules.proofs.Noninterference.Unasked.{unasked}
 -- ---- One call
 
 -- From a sound table every command, accepted or refused, whatever is lent, leaves a sound table and a store of as many entries.
-pub soundness-kept : (v : Drive) (lent : Lengths) (c : Command)
+pub soundness-kept : (v : Drive) (k : Call)
     → Shaped (v .table)
-    → LentOwn v lent
+    → LentOwn v k
     → sound (v .table) ≡ true
-    → StillSound v (driveAfter v lent c)
-soundness-kept v lent c shaped own is-sound = kept.sound-kept v lent shaped own c is-sound
+    → StillSound v (step k v)
+soundness-kept v k shaped own is-sound = kept.sound-kept v k shaped own is-sound
 
 -- So it is of what a call hands back, whatever buffers it is lent.
 pub served-sound : (v : Drive) (c : Command) (words bytes : List ℕ) (r : Served)
     → Shaped (v .table)
     → sound (v .table) ≡ true
-    → Serves v c words bytes r
+    → Serves v (calling c (v .store) words bytes) words bytes r
     → StillSound v (r .drive)
 served-sound v c words bytes r shaped is-sound serves =
-    subst (StillSound v) (sym (serves .leaves)) (soundness-kept v (lengthsOf v words bytes) c shaped (λ e. e) is-sound)
+    subst (StillSound v) (sym (serves .leaves))
+    (soundness-kept v (calling c (v .store) words bytes) shaped (λ e. e) is-sound)
 
 -- Where question 14 is answered yes, a Free block is chosen for each block that is opened: Erase FFFFFFFFh finds one, ..
-pub erase-finds-free : (v : Drive) (lent : Lengths) (d : ℕ)
+pub erase-finds-free : (v : Drive) (k : Call) (d : ℕ)
     → Shaped (v .table)
-    → LentOwn v lent
-    → verdict v lent (Erase d anyBlock) ≡ 0
+    → LentOwn v k
+    → verdict v (k asking Erase d anyBlock) ≡ 0
     → (n : ℕ) × (chosenBlock (v .table) ≡ some n)
-erase-finds-free v lent d shaped own accepted = kept.erase-finds v lent shaped own d accepted
+erase-finds-free v k d shaped own accepted = kept.erase-finds v k shaped own d accepted
 
 -- .. and Write by placement as many as it needs: every ADU gets its flash address, and so many blocks more are held.
-pub write-finds-free : (v : Drive) (lent : Lengths) (d p start : ℕ) (count : Adus)
+pub write-finds-free : (v : Drive) (k : Call) (d p start : ℕ) (count : Adus)
     → Shaped (v .table)
-    → LentOwn v lent
+    → LentOwn v k
     → let c = WriteByPlacement d p start count in
-    verdict v lent c ≡ 0
-    → (length (wordsFilled v lent c) ≡ count .0)
-    × (heldCount (driveAfter v lent c .table) d ≡ heldCount (v .table) d + newBlocks (v .table) d p (count .0))
-write-finds-free v lent d p start count shaped own accepted = kept.placement-opens v lent shaped own d p start count accepted
+    verdict v (k asking c) ≡ 0
+    → (length (wordsFilled v (k asking c)) ≡ count .0)
+    × (heldCount (step (k asking c) v .table) d ≡ heldCount (v .table) d + newBlocks (v .table) d p (count .0))
+write-finds-free v k d p start count shaped own accepted = kept.placement-opens v k shaped own d p start count accepted
 
 -- ---- The countdown
 
@@ -86,15 +88,37 @@ pub countdown : (c : Config) (store : List ℕ) (ks : List Call) (n : ℕ)
     → blockAt (reference c store ks .table) n .left + elapsed n ks (begun c store) ≡ c .period
 countdown c store ks n within inside opened = countdowns.counted-from-start c within store ks n inside opened
 
+-- .. and at least one; ..
+pub some-left : (c : Config) (store : List ℕ) (ks : List Call) (n : ℕ)
+    → withinLimits c ≡ true
+    → length store ≡ storeLength c .0
+    → n < c .blocks
+    → isOpen (blockAt (reference c store ks .table) n) ≡ true
+    → 1 ≤ blockAt (reference c store ks .table) n .left
+some-left c store ks n within whole inside opened =
+    expiries.open-left-after ks (begun c store) n (moments.begun-course c store within whole)
+    (subst (λ (x : Config). n < x .blocks) (sym (moments.begun-config c store within)) inside) opened
+
+-- .. a call that opens it is accepted, erases it and gives it a serial above the last one of its domain, and a pulse closes it in time
+-- alone; behind the last call, `end` stands for one; ..
+pub expires : (c : Config) (store : List ℕ) (ks : List Call) (end : Call) (i n : ℕ)
+    → withinLimits c ≡ true
+    → length store ≡ storeLength c .0
+    → n < c .blocks
+    → Expires n (getD ks i end) (reference c store (take i ks)) (reference c store (take (suc i) ks))
+expires c store ks end i n within whole inside =
+    expiries.expires-at ks end (begun c store) i n (moments.begun-course c store within whole)
+    (subst (λ (x : Config). n < x .blocks) (sym (moments.begun-config c store within)) inside)
+
 -- .. and the next pulse closes it exactly when T is reached.
-pub pulse-closes : (c : Config) (store : List ℕ) (ks : List Call) (n seconds : ℕ) (lent : Lengths)
+pub pulse-closes : (c : Config) (store : List ℕ) (ks : List Call) (n seconds : ℕ) (k : Call)
     → withinLimits c ≡ true
     → n < c .blocks
     → isOpen (blockAt (reference c store ks .table) n) ≡ true
-    → verdict (reference c store ks) lent (Pulse seconds) ≡ 0
-    → closesByPulse n (reference c store ks) seconds lent ≡ leb (c .period) (elapsed n ks (begun c store) + seconds)
-pulse-closes c store ks n seconds lent within inside opened accepted =
-    countdowns.pulse-closes-from-start c within store ks n inside opened seconds lent accepted
+    → verdict (reference c store ks) (k asking Pulse seconds) ≡ 0
+    → closesByPulse n (reference c store ks) seconds k ≡ leb (c .period) (elapsed n ks (begun c store) + seconds)
+pulse-closes c store ks n seconds k within inside opened accepted =
+    countdowns.pulse-closes-from-start c within store ks n inside opened seconds k accepted
 
 -- ---- Demand 3, over the rules
 

@@ -12,7 +12,7 @@ use Rattle.geometry.proofs.Laws.Shape.{by-test}
 use Rattle.geometry.specs.Shape.{adusPerBlock, withinLimits}
 use Rattle.geometry.specs.declared.shape.Adus.{Adus}
 use Rattle.geometry.specs.declared.shape.Config.{Config}
-use Rattle.model.specs.Blocks.{closed, closedFrom, countedDown, countedFrom, freed, opened, writtenFrom, writtenOn}
+use Rattle.model.specs.Blocks.{closed, closedFrom, countedDown, countedFrom, freed, oneMoreErase, opened, writtenFrom, writtenOn}
 use Rattle.model.specs.declared.block.Block.{Block}
 use Rattle.model.specs.declared.block.State.{State}
 use Rattle.model.specs.declared.block.State.the-variants as state
@@ -23,13 +23,14 @@ use Rattle.model.specs.declared.command.Command.the-variants.{ChangeCapacity, C
 use Rattle.model.specs.declared.command.Command.the-variants.{WriteByBlock, WriteByPlacement}
 use Rattle.model.specs.declared.table.Table.{Table}
 use Rattle.rules.specs.Blocks.{anyBlock, chosenBlock, erasedBlock, newBlocks, openedFor, pulsed, room, userAddresses, writtenByPlacement, writtenFirst, writtenInto, writtenNext, writtenOnwards}
-use Rattle.rules.specs.Countdown.{closesByPulse, elapsed, elapsedFrom, pulseOf, secondsOf}
+use Rattle.rules.specs.Calls.{Call, _asking_, profile}
+use Rattle.rules.specs.Countdown.{closesByPulse, elapsed, elapsedFrom, pulseOf}
 use Rattle.rules.specs.Counting.{implies}
 use Rattle.rules.specs.Domains.{deletedDomain, freedIfHeld}
 use Rattle.rules.specs.Drive.{Drive, blockAt, heldBy, isClosed, isClosedState, isFree, isFreeState, isOpen, isOpenState, openBlock, size, withBlock}
-use Rattle.rules.specs.Effects.{accepted, driveAfter, effect, erasing, verdict}
-use Rattle.rules.specs.Questions.{Lengths, isErasedAgain, isHeld, mayErase, questions}
-use Rattle.rules.specs.Runs.{Call, begun, reference, run, step}
+use Rattle.rules.specs.Effects.{accepted, effect, erasing, step, verdict}
+use Rattle.rules.specs.Questions.{isErasedAgain, isHeld, mayErase, questions}
+use Rattle.rules.specs.Runs.{begun, reference, run}
 use Rattle.rules.specs.Start.{Started}
 use Rattle.rules.proofs.Blocks.{Choice, choice}
 use Rattle.rules.proofs.Counting.{clash}
@@ -61,6 +62,16 @@ closed-not-free state.Free e = absurd (true≢false (sym e))
 closed-not-free (state.Open way) e = refl
 closed-not-free (state.Closed way) e = refl
 
+open-not-closed : (s : State) → isOpenState s ≡ true → isClosedState s ≡ false
+open-not-closed state.Free e = refl
+open-not-closed (state.Open way) e = refl
+open-not-closed (state.Closed way) e = absurd (true≢false (sym e))
+
+free-not-closed : (s : State) → isFreeState s ≡ true → isClosedState s ≡ false
+free-not-closed state.Free e = refl
+free-not-closed (state.Open way) e = refl
+free-not-closed (state.Closed way) e = absurd (true≢false (sym e))
+
 else-closed : (s : State) → isFreeState s ≡ false → isOpenState s ≡ false → isClosedState s ≡ true
 else-closed state.Free e f = absurd (true≢false e)
 else-closed (state.Open way) e f = absurd (true≢false f)
@@ -68,10 +79,13 @@ else-closed (state.Closed way) e f = refl
 
 -- ---- What a call makes of a block's record
 
--- The second record is open: if the first was too, it has the same serial and holder and so many seconds less; else it has T.
+-- The second record is open: if the first was too, it has the same serial, holder and P/E count and so many seconds less; else it has T,
+-- and one more erase.
 record Moves (period seconds : ℕ) (b c : Block) : Type 0 where
   kept : isOpen b ≡ true → isOpen c ≡ true → (c .left + seconds ≡ b .left) × (c .serial ≡ b .serial) × (c .holder ≡ b .holder)
+  kept-erases : isOpen b ≡ true → isOpen c ≡ true → c .erases ≡ b .erases
   fresh : isOpen b ≡ false → isOpen c ≡ true → c .left ≡ period
+  erased : isOpen b ≡ false → isOpen c ≡ true → c .erases ≡ oneMoreErase (b .erases)
 
 -- A block that was closed is not open.
 closed-ended : (s : State) (b : Block) → b .state ≡ s → isOpen (closedFrom s b) ≡ false
@@ -82,11 +96,21 @@ closed-ended (state.Closed way) b e = rw e
 module _ (period : ℕ) where
   -- What is as it was.
   unmoved : (b : Block) → Moves period 0 b b
-  unmoved b = record { kept = λ e f. (omega arith, refl, refl); fresh = λ e f. clash (isOpen b) f e }
+  unmoved b = record {
+    kept = λ e f. (omega arith, refl, refl);
+    kept-erases = λ e f. refl;
+    fresh = λ e f. clash (isOpen b) f e;
+    erased = λ e f. clash (isOpen b) f e;
+  }
 
   -- What is not open afterwards.
   ended : (seconds : ℕ) (b c : Block) → isOpen c ≡ false → Moves period seconds b c
-  ended seconds b c e = record { kept = λ f g. clash (isOpen c) g e; fresh = λ f g. clash (isOpen c) g e }
+  ended seconds b c e = record {
+    kept = λ f g. clash (isOpen c) g e;
+    kept-erases = λ f g. clash (isOpen c) g e;
+    fresh = λ f g. clash (isOpen c) g e;
+    erased = λ f g. clash (isOpen c) g e;
+  }
 
   -- Closed, counted down, written on and opened.
   closed-moves : (seconds : ℕ) (b : Block) → Moves period seconds b (closed b)
@@ -100,7 +124,9 @@ module _ (period : ℕ) where
       by-test (ltb seconds (b .left))
       (λ e. rw e (record {
         kept = λ f g. (omega (arith, ltb-true seconds (b .left) e), refl, refl);
+        kept-erases = λ f g. refl;
         fresh = λ f g. clash (isOpen b) (rw same) f;
+        erased = λ f g. clash (isOpen b) (rw same) f;
       }))
       (λ e. rw e (closed-moves seconds b))
 
@@ -111,27 +137,44 @@ module _ (period : ℕ) where
   written-moves (state.Closed way) count capacity b same = unmoved b
   written-moves (state.Open way) count capacity b same =
       by-test (ltb (min (b .written .0 + count .0) (capacity .0)) (capacity .0))
-      (λ e. rw e (record { kept = λ f g. (omega arith, refl, refl); fresh = λ f g. clash (isOpen b) g f }))
+      (λ e. rw e (record {
+        kept = λ f g. (omega arith, refl, refl);
+        kept-erases = λ f g. refl;
+        fresh = λ f g. clash (isOpen b) g f;
+        erased = λ f g. clash (isOpen b) g f;
+      }))
       (λ e. rw e (ended 0 b _ (rw same)))
 
   opened-moves : (d : ℕ) (way : Way) (serial : ℕ) (b : Block) → isOpen b ≡ false → Moves period 0 b (opened d way serial period b)
-  opened-moves d way serial b e = record { kept = λ f g. clash (isOpen b) f e; fresh = λ f g. refl }
+  opened-moves d way serial b e = record {
+    kept = λ f g. clash (isOpen b) f e;
+    kept-erases = λ f g. clash (isOpen b) f e;
+    fresh = λ f g. refl;
+    erased = λ f g. refl;
+  }
 
   -- ---- Within one write
 
-  -- In one write a block that was open becomes Closed at most, and a Closed one stays: none is opened a second time.
+  -- In one write a block that was open becomes Closed at most, and a Closed one stays: none is opened a second time. One that is Free
+  -- has not been erased.
   record Writes (b c : Block) : Type 0 where
     moves : Moves period 0 b c
     taken : isOpen b ≡ true → isFree c ≡ false
     shut : isClosed b ≡ true → isClosed c ≡ true
+    idle : isFree c ≡ true → c .erases ≡ b .erases
 
   -- What is as it was.
   unwritten : (b : Block) → Writes b b
-  unwritten b = record { moves = unmoved b; taken = open-taken (b .state); shut = λ e. e }
+  unwritten b = record { moves = unmoved b; taken = open-taken (b .state); shut = λ e. e; idle = λ e. refl }
 
   -- So a block that was open and is not has been closed for the whole write.
   not-open-again : (b c d : Block) → Writes b c → Writes c d → isOpen b ≡ true → isOpen c ≡ false → isOpen d ≡ false
   not-open-again b c d f g e q = closed-not-open (d .state) (g .shut (else-closed (c .state) (f .taken e) q))
+
+  -- One that is Free, or is opened by the second, was Free between them.
+  free-between : (b c d : Block) → Writes b c → Writes c d → isClosed d ≡ false → isOpen c ≡ false → isFree c ≡ true
+  free-between b c d f g e q =
+      by-test (isFree c) (λ x. x) (λ x. clash (isClosed d) (g .shut (else-closed (c .state) x q)) e)
 
   -- One after the other.
   writes-then : {b c d : Block} → Writes b c → Writes c d → Writes b d
@@ -142,14 +185,24 @@ module _ (period : ℕ) where
           let y = g .moves .kept q h in
           (omega (arith, x .0, y .0), y .1 ∙ x .1, y .2 ∙ x .2))
           (λ q. clash (isOpen d) h (not-open-again b c d f g e q));
+      kept-erases = λ e h. by-test (isOpen c)
+          (λ q. g .moves .kept-erases q h ∙ f .moves .kept-erases e q)
+          (λ q. clash (isOpen d) h (not-open-again b c d f g e q));
       fresh = λ e h. by-test (isOpen c)
           (λ q. omega (arith, f .moves .fresh e q, g .moves .kept q h .0))
           (λ q. g .moves .fresh q h);
+      erased = λ e h. by-test (isOpen c)
+          (λ q. g .moves .kept-erases q h ∙ f .moves .erased e q)
+          (λ q. g .moves .erased q h
+          ∙ ap (λ (n : ℕ). oneMoreErase n) (f .idle (free-between b c d f g (open-not-closed (d .state) h) q)));
     };
     taken = λ e. by-test (isOpen c)
         (λ q. g .taken q)
         (λ q. closed-not-free (d .state) (g .shut (else-closed (c .state) (f .taken e) q)));
     shut = λ e. g .shut (f .shut e);
+    idle = λ e. by-test (isOpen c)
+        (λ q. clash (isFree d) e (g .taken q))
+        (λ q. g .idle e ∙ f .idle (free-between b c d f g (free-not-closed (d .state) e) q));
   }
 
   -- Written on, and opened if Free.
@@ -163,6 +216,8 @@ module _ (period : ℕ) where
         (λ e. rw (e, same))
         (λ e. rw (e, same));
     shut = λ f. clash (isClosed b) f (rw same);
+    idle = λ f. clash (isFree (writtenFrom (state.Open way) count capacity b)) f
+        (by-test (ltb (min (b .written .0 + count .0) (capacity .0)) (capacity .0)) (λ e. rw (e, same)) (λ e. rw (e, same)));
   }
 
   opened-writes : (d : ℕ) (way : Way) (serial : ℕ) (b : Block) → isFree b ≡ true → Writes b (opened d way serial period b)
@@ -170,6 +225,7 @@ module _ (period : ℕ) where
     moves = opened-moves d way serial b (free-not-open (b .state) free);
     taken = λ e. refl;
     shut = λ e. clash (isFree b) free (closed-not-free (b .state) e);
+    idle = λ e. absurd (true≢false (sym e));
   }
 
 -- What a write, or a part of it, makes of a table.
@@ -298,14 +354,14 @@ chosen-not-open : (t : Table) (found : Option ℕ) → Choice t (size t) found �
 chosen-not-open t none c = tt
 chosen-not-open t (some n) c = free-not-open (blockAt t n .state) (c .free)
 
-erased-not-open : (v : Drive) (lent : Lengths) (d n : ℕ) → verdict v lent (Erase d n) ≡ 0
+erased-not-open : (v : Drive) (call : Call) (d n : ℕ) → verdict v (call asking Erase d n) ≡ 0
     → NotOpen (v .table) (erasedBlock (v .table) n)
 unfolding questions
-erased-not-open v lent d n e =
+erased-not-open v call d n e =
     let t = v .table in
     let b = blockAt t n in
-    let q9 : mayErase t d n ≡ true = answered-yes v lent (Erase d n) 5 e in
-    let q10 : implies (isErasedAgain t d n) (isClosed b) ≡ true = answered-yes v lent (Erase d n) 6 e in
+    let q9 : mayErase t d n ≡ true = answered-yes v (call asking Erase d n) 9 e in
+    let q10 : implies (isErasedAgain t d n) (isClosed b) ≡ true = answered-yes v (call asking Erase d n) 10 e in
     by-test (eqb n anyBlock)
     (λ any. rw any (chosen-not-open t (chosenBlock t) (choice t (size t))))
     (λ one. rw one (by-test (isFree b)
@@ -320,30 +376,30 @@ erasing-moved d (some n) v h =
     let t = v .table in
     all-moved t _ refl (block-moves t n _ (opened-moves (t .config .period) d _ _ (blockAt t n) h))
 
-effect-moved : (v : Drive) (lent : Lengths) (c : Command) → verdict v lent c ≡ 0
-    → Moved (secondsOf c) (v .table) (effect c v .drive .table)
+effect-moved : (v : Drive) (call : Call) (c : Command) → verdict v (call asking c) ≡ 0
+    → Moved (profile c .seconds) (v .table) (effect v (call asking c) .drive .table)
 unfolding effect
-effect-moved v lent (Create d guarantee quota placements limit) e = same-blocks (v .table) _ refl refl
-effect-moved v lent (ChangeCapacity d guarantee quota) e = same-blocks (v .table) _ refl refl
-effect-moved v lent (Delete d) e = deleted-moved (v .table) d
-effect-moved v lent (Erase d n) e = erasing-moved d (erasedBlock (v .table) n) v (erased-not-open v lent d n e)
-effect-moved v lent (Close d n) e =
+effect-moved v call (Create d guarantee quota placements limit) e = same-blocks (v .table) _ refl refl
+effect-moved v call (ChangeCapacity d guarantee quota) e = same-blocks (v .table) _ refl refl
+effect-moved v call (Delete d) e = deleted-moved (v .table) d
+effect-moved v call (Erase d n) e = erasing-moved d (erasedBlock (v .table) n) v (erased-not-open v call d n e)
+effect-moved v call (Close d n) e =
     let t = v .table in all-moved t _ refl (block-moves t n _ (closed-moves (t .config .period) 0 (blockAt t n)))
-effect-moved v lent (Free d n) e =
+effect-moved v call (Free d n) e =
     let t = v .table in all-moved t _ refl (block-moves t n _ (ended (t .config .period) 0 (blockAt t n) _ refl))
-effect-moved v lent (WriteByPlacement d p start count) e = write-moved (placement-along d p (userAddresses start (count .0)) v)
-effect-moved v lent (WriteByBlock d n start count) e = write-moved (into-along d n (userAddresses start (count .0)) v)
-effect-moved v lent (Read d address count expected) e = same-blocks (v .table) (v .table) refl refl
-effect-moved v lent (Page d n) e = same-blocks (v .table) (v .table) refl refl
-effect-moved v lent (Listing d which) e = same-blocks (v .table) (v .table) refl refl
-effect-moved v lent (Pulse seconds) e = pulse-moved (v .table) seconds
+effect-moved v call (WriteByPlacement d p start count) e = write-moved (placement-along d p (userAddresses start (count .0)) v)
+effect-moved v call (WriteByBlock d n start count) e = write-moved (into-along d n (userAddresses start (count .0)) v)
+effect-moved v call (Read d address count expected) e = same-blocks (v .table) (v .table) refl refl
+effect-moved v call (Page d n) e = same-blocks (v .table) (v .table) refl refl
+effect-moved v call (Listing d which) e = same-blocks (v .table) (v .table) refl refl
+effect-moved v call (Pulse seconds) e = pulse-moved (v .table) seconds
 
 -- So does a call, with the seconds of an accepted pulse.
 moved : (k : Call) (v : Drive) → Moved (pulseOf v k) (v .table) (step k v .table)
-unfolding driveAfter
+unfolding step
 moved k v =
-    by-test (accepted v (k .lent) (k .command))
-    (λ e. rw e (effect-moved v (k .lent) (k .command) (eqb-true (verdict v (k .lent) (k .command)) 0 e)))
+    by-test (accepted v k)
+    (λ e. rw e (effect-moved v k (k .command) (eqb-true (verdict v k) 0 e)))
     (λ e. rw e (same-blocks (v .table) (v .table) refl refl))
 
 -- A block of the drive that is open before a call and after it was not opened by it: it has the same serial and holder, and its
@@ -359,6 +415,13 @@ stays-open k v n inside before after = moved k v .inside n inside .kept before a
 newly-open : (k : Call) (v : Drive) (n : ℕ) → isOpen (blockAt (v .table) n) ≡ false → isOpen (blockAt (step k v .table) n) ≡ true
     → blockAt (step k v .table) n .left ≡ v .table .config .period
 newly-open k v n before after = moved k v .fresh n before after
+
+-- And it has been erased once more.
+pub newly-erased : (k : Call) (v : Drive) (n : ℕ) → n < size (v .table)
+    → isOpen (blockAt (v .table) n) ≡ false
+    → isOpen (blockAt (step k v .table) n) ≡ true
+    → blockAt (step k v .table) n .erases ≡ oneMoreErase (blockAt (v .table) n .erases)
+newly-erased k v n inside before after = moved k v .inside n inside .erased before after
 
 -- The period never changes.
 same-config : (k : Call) (v : Drive) → step k v .table .config ≡ v .table .config
@@ -402,13 +465,13 @@ counted-closes (state.Open way) seconds b same e =
     (λ l. rw (l, same, le-leb (b .left) seconds (ltb-false seconds (b .left) l)))
 
 -- An accepted pulse closes an open block exactly when no second is left.
-pub pulse-closes : (v : Drive) (lent : Lengths) (seconds n : ℕ) → verdict v lent (Pulse seconds) ≡ 0 → n < size (v .table)
+pub pulse-closes : (v : Drive) (call : Call) (seconds n : ℕ) → verdict v (call asking Pulse seconds) ≡ 0 → n < size (v .table)
     → isOpen (blockAt (v .table) n) ≡ true
-    → closesByPulse n v seconds lent ≡ leb (blockAt (v .table) n .left) seconds
+    → closesByPulse n v seconds call ≡ leb (blockAt (v .table) n .left) seconds
 unfolding countedDown
-pulse-closes v lent seconds n accepted inside before =
+pulse-closes v call seconds n accepted inside before =
     let b = blockAt (v .table) n in
-    rw (before, pulse-open v lent seconds n accepted inside) (counted-closes (b .state) seconds b refl before)
+    rw (before, pulse-open v call seconds n accepted inside) (counted-closes (b .state) seconds b refl before)
 
 -- From the start of a configuration.
 module _ (c : Config) (within : withinLimits c ≡ true) (store : List ℕ) (ks : List Call) (n : ℕ) (inside : n < c .blocks)
@@ -425,12 +488,12 @@ module _ (c : Config) (within : withinLimits c ≡ true) (store : List ℕ) (ks 
       none-open : isOpen (blockAt (begun c store .table) n) ≡ false
       none-open = rw (start-accepted c within, clear-block c n)
 
-  pub pulse-closes-from-start : (seconds : ℕ) (lent : Lengths) → verdict (reference c store ks) lent (Pulse seconds) ≡ 0
-      → closesByPulse n (reference c store ks) seconds lent ≡ leb (c .period) (elapsed n ks (begun c store) + seconds)
-  pulse-closes-from-start seconds lent accepted =
+  pub pulse-closes-from-start : (seconds : ℕ) (call : Call) → verdict (reference c store ks) (call asking Pulse seconds) ≡ 0
+      → closesByPulse n (reference c store ks) seconds call ≡ leb (c .period) (elapsed n ks (begun c store) + seconds)
+  pulse-closes-from-start seconds call accepted =
       let v = reference c store ks in
       let left = blockAt (v .table) n .left in
-      pulse-closes v lent seconds n accepted
+      pulse-closes v call seconds n accepted
       (subst (λ (x : Config). n < x .blocks) (sym (same-configs ks (begun c store) ∙ config-begun)) inside) after
       ∙ shifted left seconds (elapsed n ks (begun c store)) (c .period) counted-from-start
     where

@@ -19,26 +19,26 @@ use Rattle.model.specs.declared.command.Command.the-variants.{WriteByBlock, Wri
 use Rattle.model.specs.declared.command.Listed.the-variants as listed
 use Rattle.model.specs.declared.table.Table.{Table}
 use Rattle.rules.specs.Blocks.{chosenBlock, erasedBlock, newBlocks, openedFor, room, userAddress, userAddresses, writtenByPlacement, writtenFirst, writtenInto, writtenNext, writtenOnwards}
+use Rattle.rules.specs.Calls.{BytesDue, Call, _asking_, listBytes, noBytes, pageBytes, profile}
 use Rattle.rules.specs.Claims.{Unchanged}
 use Rattle.rules.specs.Counting.{numbersTo}
 use Rattle.rules.specs.Drive.{Drive, blockAt, openBlock, openOf, overwritten, size}
-use Rattle.rules.specs.Effects.{BytesFilled, Fills, FillsIf, Served, Serves, accepted, answerTo, driveAfter, effect, erasing, lengthsOf, verdict, wordsFilled}
+use Rattle.rules.specs.Effects.{BytesFilled, Fills, FillsIf, Served, Serves, accepted, answerTo, byteCount, effect, erasing, step, verdict, wordsFilled}
 use Rattle.rules.specs.LogPages.{closedList, listLength, listOf, openMark, page}
-use Rattle.rules.specs.Questions.{Lengths, questions}
+use Rattle.rules.specs.Questions.{questions}
 use Rattle.rules.proofs.Counting.{length-row, numbers-once}
 use Rattle.rules.proofs.Drive.{overwritten-nothing}
 use Rattle.rules.proofs.LogPages.{closed-list-length, open-list-length, page-length}
 use Rattle.rules.proofs.Questions.{answered-yes}
 
-pub refused-unchanged : (v : Drive) (c : Command) (words bytes : List ℕ) (r : Served)
-    → Serves v c words bytes r
+pub refused-unchanged : (v : Drive) (k : Call) (words bytes : List ℕ) (r : Served)
+    → Serves v k words bytes r
     → ¬ (r .answer .number ≡ 0)
     → Unchanged v words bytes r
-unfolding driveAfter wordsFilled answered
-refused-unchanged v c words bytes r s not-0 =
-    let lent = lengthsOf v words bytes in
-    let number : r .answer .number ≡ verdict v lent c = rw (s .answers) (answered-number (questions v lent c) (effect c v .values)) in
-    let refused : accepted v lent c ≡ false = ne-eqb (verdict v lent c) 0 (λ e. not-0 (number ∙ e)) in
+unfolding step wordsFilled answered
+refused-unchanged v k words bytes r s not-0 =
+    let number : r .answer .number ≡ verdict v k = rw (s .answers) (answered-number (questions v k) (effect v k .values)) in
+    let refused : accepted v k ≡ false = ne-eqb (verdict v k) 0 (λ e. not-0 (number ∙ e)) in
     let filled = s .fills-bytes in
     let none : filled .0 ≡ [] = rw refused at (filled .1) in
     record {
@@ -49,40 +49,30 @@ refused-unchanged v c words bytes r s not-0 =
     }
 
 -- An accepted command leaves its effect.
-pub accepted-drive : (v : Drive) (lent : Lengths) (c : Command) → verdict v lent c ≡ 0 → driveAfter v lent c ≡ effect c v .drive
-unfolding driveAfter
-accepted-drive v lent c e = rw e
+pub accepted-drive : (v : Drive) (k : Call) → verdict v k ≡ 0 → step k v ≡ effect v k .drive
+unfolding step
+accepted-drive v k e = rw e
 
--- Some bytes are such as a command fills: for the open list, those in ascending order.
-fill : (c : Command) (t : Table) → (bytes : List ℕ) × Fills c t bytes
-fill (Create d guarantee quota placements limit) t = ([], refl)
-fill (ChangeCapacity d guarantee quota) t = ([], refl)
-fill (Delete d) t = ([], refl)
-fill (Erase d n) t = ([], refl)
-fill (Close d n) t = ([], refl)
-fill (Free d n) t = ([], refl)
-fill (WriteByPlacement d p start count) t = ([], refl)
-fill (WriteByBlock d n start count) t = ([], refl)
-fill (Read d address count expected) t = ([], refl)
-fill (Page d n) t = (page t n, refl)
-fill (Listing d listed.Closed) t = (closedList t d, refl)
-fill (Listing d listed.Open) t =
+-- Some bytes are such as are filled: for the open list, those in ascending order.
+fill : (due : BytesDue) (t : Table) → (bytes : List ℕ) × Fills due t bytes
+fill noBytes t = ([], refl)
+fill (pageBytes n) t = (page (t .config) n (blockAt t n), refl)
+fill (listBytes d listed.Closed) t = (closedList t d, refl)
+fill (listBytes d listed.Open) t =
     let order = numbersTo (λ n. openOf d (blockAt t n)) (size t) in
     (listOf t openMark order, record { order = order; each-once = numbers-once (λ n. openOf d (blockAt t n)) (size t); descriptors = refl })
-fill (Pulse seconds) t = ([], refl)
 
-pub fill-if : (b : Bool) (c : Command) (t : Table) → (bytes : List ℕ) × FillsIf b c t bytes
-fill-if true c t = fill c t
-fill-if false c t = ([], refl)
+pub fill-if : (b : Bool) (due : BytesDue) (t : Table) → (bytes : List ℕ) × FillsIf b due t bytes
+fill-if true due t = fill due t
+fill-if false due t = ([], refl)
 
-pub always-answered : (v : Drive) (c : Command) (words bytes : List ℕ) → (r : Served) × Serves v c words bytes r
-always-answered v c words bytes =
-    let lent = lengthsOf v words bytes in
-    let filled = fill-if (accepted v lent c) c (v .table) in (
+pub always-answered : (v : Drive) (k : Call) (words bytes : List ℕ) → (r : Served) × Serves v k words bytes r
+always-answered v k words bytes =
+    let filled = fill-if (accepted v k) (profile (k .command) .bytes) (v .table) in (
       record {
-        answer = answerTo v lent c;
-        drive = driveAfter v lent c;
-        words = overwritten 0 (wordsFilled v lent c) words;
+        answer = answerTo v k;
+        drive = step k v;
+        words = overwritten 0 (wordsFilled v k) words;
         bytes = overwritten 0 (filled .0) bytes;
       },
       record { answers = refl; leaves = refl; fills-words = refl; fills-bytes = (filled .0, filled .1, refl) },
@@ -136,77 +126,77 @@ erasing-words : (d : ℕ) (found : Option ℕ) (v : Drive) → length (erasing d
 erasing-words d none v = omega arith
 erasing-words d (some n) v = omega arith
 
-effect-words : (v : Drive) (lent : Lengths) (c : Command) → verdict v lent c ≡ 0 → length (effect c v .words) ≤ lent .words
+effect-words : (v : Drive) (k : Call) (c : Command) → verdict v (k asking c) ≡ 0 → length (effect v (k asking c) .words) ≤ k .lent .words
 unfolding effect questions
-effect-words v lent (Create d guarantee quota placements limit) e = omega arith
-effect-words v lent (ChangeCapacity d guarantee quota) e = omega arith
-effect-words v lent (Delete d) e = omega arith
-effect-words v lent (Erase d n) e = omega (arith, erasing-words d (erasedBlock (v .table) n) v)
-effect-words v lent (Close d n) e = omega arith
-effect-words v lent (Free d n) e = omega arith
-effect-words v lent (WriteByPlacement d p start count) e =
+effect-words v k (Create d guarantee quota placements limit) e = omega arith
+effect-words v k (ChangeCapacity d guarantee quota) e = omega arith
+effect-words v k (Delete d) e = omega arith
+effect-words v k (Erase d n) e = omega (arith, erasing-words d (erasedBlock (v .table) n) v)
+effect-words v k (Close d n) e = omega arith
+effect-words v k (Free d n) e = omega arith
+effect-words v k (WriteByPlacement d p start count) e =
     let users = userAddresses start (count .0) in
     omega (
       arith,
       placement-length d p users v,
       length-row (userAddress start) (count .0),
-      leb-true (count .0) (lent .words) (answered-yes v lent (WriteByPlacement d p start count) 5 e),
+      leb-true (count .0) (k .lent .words) (answered-yes v (k asking WriteByPlacement d p start count) 7 e),
     )
-effect-words v lent (WriteByBlock d n start count) e =
+effect-words v k (WriteByBlock d n start count) e =
     let users = userAddresses start (count .0) in
     omega (
       arith,
       written-length d n users v,
       length-row (userAddress start) (count .0),
-      leb-true (count .0) (lent .words) (answered-yes v lent (WriteByBlock d n start count) 5 e),
+      leb-true (count .0) (k .lent .words) (answered-yes v (k asking WriteByBlock d n start count) 7 e),
     )
-effect-words v lent (Read d address count expected) e =
+effect-words v k (Read d address count expected) e =
     let a = fieldsOf (v .table .config) address in
     omega (
       arith,
       length-take (count .0) (drop (stretchStart (v .table .config) (a .block) .0 + a .offset .0) (v .store)),
-      leb-true (count .0) (lent .words) (answered-yes v lent (Read d address count expected) 5 e),
+      leb-true (count .0) (k .lent .words) (answered-yes v (k asking Read d address count expected) 7 e),
     )
-effect-words v lent (Page d n) e = omega arith
-effect-words v lent (Listing d which) e = omega arith
-effect-words v lent (Pulse seconds) e = omega arith
+effect-words v k (Page d n) e = omega arith
+effect-words v k (Listing d which) e = omega arith
+effect-words v k (Pulse seconds) e = omega arith
 
-pub words-fit : (v : Drive) (lent : Lengths) (c : Command) → length (wordsFilled v lent c) ≤ lent .words
+pub words-fit : (v : Drive) (k : Call) → length (wordsFilled v k) ≤ k .lent .words
 unfolding wordsFilled
-words-fit v lent c =
-    by-test (accepted v lent c)
-    (λ e. rw e (effect-words v lent c (eqb-true (verdict v lent c) 0 e)))
+words-fit v k =
+    by-test (accepted v k)
+    (λ e. rw e (effect-words v k (k .command) (eqb-true (verdict v k) 0 e)))
     (λ e. rw e (omega arith))
 
-nothing-fits : (bytes : List ℕ) (n : ℕ) → bytes ≡ [] → length bytes ≤ n
-nothing-fits bytes n e = rw e (omega arith)
+-- As many bytes are filled as are due, ..
+pub bytes-counted : (t : Table) (due : BytesDue) (bytes : List ℕ) → Fills due t bytes → length bytes ≡ byteCount t due
+bytes-counted t noBytes bytes f = ap length f
+bytes-counted t (pageBytes n) bytes f = ap length f ∙ page-length (t .config) n (blockAt t n)
+bytes-counted t (listBytes d listed.Closed) bytes f = ap length f ∙ closed-list-length t d
+bytes-counted t (listBytes d listed.Open) bytes f = open-list-length t d bytes f
 
-effect-bytes : (v : Drive) (lent : Lengths) (c : Command) (bytes : List ℕ) → verdict v lent c ≡ 0 → Fills c (v .table) bytes → length bytes ≤ lent .bytes
+-- .. and question 7 asks for so many.
+bytes-asked : (v : Drive) (k : Call) (c : Command) → verdict v (k asking c) ≡ 0 → byteCount (v .table) (profile c .bytes) ≤ k .lent .bytes
 unfolding questions
-effect-bytes v lent (Create d guarantee quota placements limit) bytes e f = nothing-fits bytes (lent .bytes) f
-effect-bytes v lent (ChangeCapacity d guarantee quota) bytes e f = nothing-fits bytes (lent .bytes) f
-effect-bytes v lent (Delete d) bytes e f = nothing-fits bytes (lent .bytes) f
-effect-bytes v lent (Erase d n) bytes e f = nothing-fits bytes (lent .bytes) f
-effect-bytes v lent (Close d n) bytes e f = nothing-fits bytes (lent .bytes) f
-effect-bytes v lent (Free d n) bytes e f = nothing-fits bytes (lent .bytes) f
-effect-bytes v lent (WriteByPlacement d p start count) bytes e f = nothing-fits bytes (lent .bytes) f
-effect-bytes v lent (WriteByBlock d n start count) bytes e f = nothing-fits bytes (lent .bytes) f
-effect-bytes v lent (Read d address count expected) bytes e f = nothing-fits bytes (lent .bytes) f
-effect-bytes v lent (Page d n) bytes e f =
-    rw (f, page-length (v .table) n) (leb-true 256 (lent .bytes) (answered-yes v lent (Page d n) 4 e))
-effect-bytes v lent (Listing d listed.Closed) bytes e f =
-    rw (f, closed-list-length (v .table) d)
-    (leb-true (listLength (v .table) d listed.Closed) (lent .bytes) (answered-yes v lent (Listing d listed.Closed) 3 e))
-effect-bytes v lent (Listing d listed.Open) bytes e f =
-    rw (open-list-length (v .table) d bytes f)
-    (leb-true (listLength (v .table) d listed.Open) (lent .bytes) (answered-yes v lent (Listing d listed.Open) 3 e))
-effect-bytes v lent (Pulse seconds) bytes e f = nothing-fits bytes (lent .bytes) f
+bytes-asked v k (Create d guarantee quota placements limit) e = omega arith
+bytes-asked v k (ChangeCapacity d guarantee quota) e = omega arith
+bytes-asked v k (Delete d) e = omega arith
+bytes-asked v k (Erase d n) e = omega arith
+bytes-asked v k (Close d n) e = omega arith
+bytes-asked v k (Free d n) e = omega arith
+bytes-asked v k (WriteByPlacement d p start count) e = omega arith
+bytes-asked v k (WriteByBlock d n start count) e = omega arith
+bytes-asked v k (Read d address count expected) e = omega arith
+bytes-asked v k (Page d n) e = leb-true 256 (k .lent .bytes) (answered-yes v (k asking Page d n) 7 e)
+bytes-asked v k (Listing d which) e =
+    leb-true (listLength (v .table) d which) (k .lent .bytes) (answered-yes v (k asking Listing d which) 7 e)
+bytes-asked v k (Pulse seconds) e = omega arith
 
-bytes-if : (b : Bool) (v : Drive) (lent : Lengths) (c : Command) (bytes : List ℕ) → (b ≡ true → verdict v lent c ≡ 0)
-    → FillsIf b c (v .table) bytes → length bytes ≤ lent .bytes
-bytes-if true v lent c bytes h f = effect-bytes v lent c bytes (h refl) f
-bytes-if false v lent c bytes h f = nothing-fits bytes (lent .bytes) f
+bytes-if : (b : Bool) (v : Drive) (k : Call) (bytes : List ℕ) → (b ≡ true → verdict v k ≡ 0)
+    → FillsIf b (profile (k .command) .bytes) (v .table) bytes → length bytes ≤ k .lent .bytes
+bytes-if true v k bytes h f =
+    omega (arith, bytes-counted (v .table) (profile (k .command) .bytes) bytes f, bytes-asked v k (k .command) (h refl))
+bytes-if false v k bytes h f = rw f (omega arith)
 
-pub bytes-fit : (v : Drive) (lent : Lengths) (c : Command) (bytes : List ℕ) → BytesFilled v lent c bytes → length bytes ≤ lent .bytes
-bytes-fit v lent c bytes f =
-    bytes-if (accepted v lent c) v lent c bytes (λ e. eqb-true (verdict v lent c) 0 e) f
+pub bytes-fit : (v : Drive) (k : Call) (bytes : List ℕ) → BytesFilled v k bytes → length bytes ≤ k .lent .bytes
+bytes-fit v k bytes f = bytes-if (accepted v k) v k bytes (λ e. eqb-true (verdict v k) 0 e) f

@@ -2,12 +2,13 @@
 use mathlib.Core.Bool.{true}
 use mathlib.Core.List.{List, [], _∷_}
 use mathlib.Core.Path.{_≡_, refl, ap}
+use Rattle.rules.specs.Calls.{Call, profile}
 use Rattle.rules.specs.Drive.{Drive}
-use Rattle.rules.specs.Effects.{accepted, answerTo, wordsFilled}
+use Rattle.rules.specs.Effects.{accepted, answerTo, step, wordsFilled}
 use Rattle.rules.specs.Example.{NotEmpty, blocksOf, busy, busyHalf, busyNumbers, numbersTold, quiet, quietHalf, quietNumbers, sameInputs, sevens, zeros}
 use Rattle.rules.specs.Noninterference.{Exchange, Replied, calls, fullyReserved, inputs}
 use Rattle.rules.specs.Observation.{Reply, requestOf}
-use Rattle.rules.specs.Runs.{Call, answers, run, step}
+use Rattle.rules.specs.Runs.{answers, run}
 use Rattle.rules.proofs.Effects.{fill-if}
 use Rattle.rules.proofs.Machine.{machine}
 
@@ -73,11 +74,9 @@ pub exchanged : (ks : List Call) (v : Drive) → (xs : List Exchange) × (calls 
 unfolding Replied
 exchanged [] v = ([], refl, tt)
 exchanged (k ∷ ks) v =
-    let lent = k .lent in
-    let c = k .command in
     let rest = exchanged ks (step k v) in
-    let filled = fill-if (accepted v lent c) c (v .table) in
-    let reply : Reply = record { answer = answerTo v lent c; words = wordsFilled v lent c; bytes = filled .0 } in (
+    let filled = fill-if (accepted v k) (profile (k .command) .bytes) (v .table) in
+    let reply : Reply = record { answer = answerTo v k; words = wordsFilled v k; bytes = filled .0 } in (
       record { call = k; reply = reply } ∷ rest .0,
       ap (λ (ls : List Call). k ∷ ls) (rest .1),
       (record { answers = refl; fills-words = refl; fills-bytes = filled .1 }, rest .2),

@@ -14,18 +14,18 @@ use Rattle.geometry.specs.declared.shape.Config.{Config}
 use Rattle.geometry.specs.declared.shape.Planes.{Planes}
 use Rattle.model.proofs.Laws.{old-not-rewound}
 use Rattle.model.specs.Blocks.{countedDown, hasNewSerial}
-use Rattle.model.specs.declared.command.Command.{Command}
+use Rattle.model.specs.declared.block.Block.{Block}
 use Rattle.model.specs.declared.command.Command.the-variants.{Delete, Erase, Pulse, Read, WriteByBlock, WriteByPlacement}
 use Rattle.model.specs.declared.command.Listed.the-variants as listed
 use Rattle.model.specs.declared.table.Table.{Table}
 use Rattle.rules.specs.Blocks.{allOnes, chosenBlock, stored, userAddress, userAddresses}
+use Rattle.rules.specs.Calls.{Call, _asking_, ownDomain}
 use Rattle.rules.specs.Claims.{Chosen, ClosedList, Found, Gone, Layout, Reached, Unchanged, rising}
 use Rattle.rules.specs.Domains.{changedDomain}
 use Rattle.rules.specs.Drive.{Drive, blockAt, domainAt, heldCount, isFree, isOpen, size}
-use Rattle.rules.specs.Effects.{BytesFilled, Served, Serves, answerTo, driveAfter, verdict, wordsFilled}
-use Rattle.rules.specs.LogPages.{OpenList, closedList, listLength, page}
-use Rattle.rules.specs.Questions.{Lengths, questions}
-use Rattle.rules.specs.Runs.{ownDomain}
+use Rattle.rules.specs.Effects.{BytesFilled, Served, Serves, answerTo, step, verdict, wordsFilled}
+use Rattle.rules.specs.LogPages.{OpenList, closedList, listLength, page, pageFields}
+use Rattle.rules.specs.Questions.{questions}
 use Rattle.rules.specs.Soundness.{sound}
 use Rattle.rules.specs.Start.{emptyTable, started, tableOfZeros}
 use Rattle.rules.proofs.Blocks as blocks
@@ -52,33 +52,33 @@ pub zeros-unsound : sound tableOfZeros ≡ false
 zeros-unsound = start.zeros-unsound
 
 -- Each command's questions have rising numbers from 2 to 16, which is document 01's order.
-pub questions-in-order : (v : Drive) (lent : Lengths) (c : Command) → rising 1 (questions v lent c) ≡ true
-questions-in-order v lent c = asked.in-order v lent c
+pub questions-in-order : (v : Drive) (k : Call) → rising 1 (questions v k) ≡ true
+questions-in-order v k = asked.in-order v k
 
 -- Every call has something to hand back.
-pub always-answered : (v : Drive) (c : Command) (words bytes : List ℕ) → (r : Served) × Serves v c words bytes r
-always-answered v c words bytes = effects.always-answered v c words bytes
+pub always-answered : (v : Drive) (k : Call) (words bytes : List ℕ) → (r : Served) × Serves v k words bytes r
+always-answered v k words bytes = effects.always-answered v k words bytes
 
 -- A refusal is a number alone, and leaves table, store, words and bytes as they were.
-pub refused-unchanged : (v : Drive) (c : Command) (words bytes : List ℕ) (r : Served)
-    → Serves v c words bytes r
+pub refused-unchanged : (v : Drive) (k : Call) (words bytes : List ℕ) (r : Served)
+    → Serves v k words bytes r
     → ¬ (r .answer .number ≡ 0)
     → Unchanged v words bytes r
-refused-unchanged v c words bytes r serves refused = effects.refused-unchanged v c words bytes r serves refused
+refused-unchanged v k words bytes r serves refused = effects.refused-unchanged v k words bytes r serves refused
 
 -- What is filled fits what is lent.
-pub words-fit : (v : Drive) (lent : Lengths) (c : Command) → length (wordsFilled v lent c) ≤ lent .words
-words-fit v lent c = effects.words-fit v lent c
+pub words-fit : (v : Drive) (k : Call) → length (wordsFilled v k) ≤ k .lent .words
+words-fit v k = effects.words-fit v k
 
-pub bytes-fit : (v : Drive) (lent : Lengths) (c : Command) (filled : List ℕ) → BytesFilled v lent c filled → length filled ≤ lent .bytes
-bytes-fit v lent c filled fills = effects.bytes-fit v lent c filled fills
+pub bytes-fit : (v : Drive) (k : Call) (filled : List ℕ) → BytesFilled v k filled → length filled ≤ k .lent .bytes
+bytes-fit v k filled fills = effects.bytes-fit v k filled fills
 
 -- Page and List fill as many bytes as question 7 asks for, and each field of the page stands in its place.
-pub page-length : (t : Table) (n : ℕ) → length (page t n) ≡ 256
-page-length t n = pages.page-length t n
+pub page-length : (t : Table) (n : ℕ) → length (page (t .config) n (blockAt t n)) ≡ 256
+page-length t n = pages.page-length (t .config) n (blockAt t n)
 
-pub page-layout : (t : Table) (n : ℕ) → Layout t n (page t n)
-page-layout t n = pages.page-layout t n
+pub page-layout : (c : Config) (n : ℕ) (b : Block) → Layout (pageFields c n b) (page c n b)
+page-layout c n b = pages.page-layout c n b
 
 pub closed-list-length : (t : Table) (d : ℕ) → length (closedList t d) ≡ listLength t d listed.Closed
 closed-list-length t d = pages.closed-list-length t d
@@ -99,40 +99,42 @@ none-chosen t nothing = subst (blocks.Choice t (size t)) nothing (blocks.choice 
 
 -- Each block goes from state to state only by the changes of a block's record; it is opened for the command's own domain alone,
 -- with a new serial of that and for T seconds.
-pub only-by-changes : (v : Drive) (lent : Lengths) (c : Command) (n : ℕ)
-    → Reached (ownDomain c) (domainAt (v .table) (ownDomain c) .last) (v .table .config .period)
+pub only-by-changes : (v : Drive) (k : Call) (n : ℕ)
+    → let own = ownDomain (k .command) in
+    Reached own (domainAt (v .table) own .last) (v .table .config .period)
     (blockAt (v .table) n)
-    (blockAt (driveAfter v lent c .table) n)
-only-by-changes v lent c n = runs.follows v lent c .reached n
+    (blockAt (step k v .table) n)
+only-by-changes v k n = runs.follows v k .reached n
 
 -- A block without a new serial of the command's own domain has no more seconds left than before: no write, no Close and no
 -- refused command winds the countdown up again.
-pub never-rewound : (v : Drive) (lent : Lengths) (c : Command) (n : ℕ)
-    → hasNewSerial (ownDomain c) (domainAt (v .table) (ownDomain c) .last) (blockAt (driveAfter v lent c .table) n) ≡ false
-    → blockAt (driveAfter v lent c .table) n .left ≤ blockAt (v .table) n .left
-never-rewound v lent c n old =
-    let by = only-by-changes v lent c n in
+pub never-rewound : (v : Drive) (k : Call) (n : ℕ)
+    → let own = ownDomain (k .command) in
+    hasNewSerial own (domainAt (v .table) own .last) (blockAt (step k v .table) n) ≡ false
+    → blockAt (step k v .table) n .left ≤ blockAt (v .table) n .left
+never-rewound v k n old =
+    let by = only-by-changes v k n in
     rw (by .1)
-    (old-not-rewound (ownDomain c) _ _ (by .0) (blockAt (v .table) n) (by .2) (rw (by .1) at old))
+    (old-not-rewound (ownDomain (k .command)) _ _ (by .0) (blockAt (v .table) n) (by .2) (rw (by .1) at old))
 
 -- A command leaves every other domain's record alone: its guarantee, its quota, its limits and its last serial.
-pub neighbours-unchanged : (v : Drive) (lent : Lengths) (c : Command) (d : ℕ)
+pub neighbours-unchanged : (v : Drive) (k : Call) (d : ℕ)
     → 0 < d
-    → ¬ (ownDomain c ≡ d)
-    → domainAt (driveAfter v lent c .table) d ≡ domainAt (v .table) d
-neighbours-unchanged v lent c d positive other = runs.follows v lent c .others d positive other
+    → ¬ (ownDomain (k .command) ≡ d)
+    → domainAt (step k v .table) d ≡ domainAt (v .table) d
+neighbours-unchanged v k d positive other = runs.follows v k .others d positive other
 
 -- A pulse counts down each open block's record, and changes no other.
-pub pulse-open : (v : Drive) (lent : Lengths) (seconds n : ℕ)
-    → verdict v lent (Pulse seconds) ≡ 0
+pub pulse-open : (v : Drive) (k : Call) (seconds n : ℕ)
+    → verdict v (k asking Pulse seconds) ≡ 0
     → n < size (v .table)
-    → blockAt (driveAfter v lent (Pulse seconds) .table) n ≡ countedDown seconds (blockAt (v .table) n)
-pulse-open v lent seconds n accepted inside = runs.pulse-open v lent seconds n accepted inside
+    → blockAt (step (k asking Pulse seconds) v .table) n ≡ countedDown seconds (blockAt (v .table) n)
+pulse-open v k seconds n accepted inside = runs.pulse-open v k seconds n accepted inside
 
-pub pulse-others : (v : Drive) (lent : Lengths) (seconds n : ℕ)
+pub pulse-others : (v : Drive) (k : Call) (seconds n : ℕ)
     → isOpen (blockAt (v .table) n) ≡ false
-    → blockAt (driveAfter v lent (Pulse seconds) .table) n ≡ blockAt (v .table) n
-pulse-others v lent seconds n not-open = runs.pulse-others v lent seconds n not-open
+    → blockAt (step (k asking Pulse seconds) v .table) n ≡ blockAt (v .table) n
+pulse-others v k seconds n not-open = runs.pulse-others v k seconds n not-open
 
 -- Change Capacity leaves no quota below the guarantee or below what is held, and two zeros change nothing.
 pub changed-order : (t : Table) (d : ℕ) (guarantee quota : Planes)
@@ -146,50 +148,50 @@ pub changed-by-zeros : (t : Table) (d : ℕ)
 changed-by-zeros t d order held = domains.changed-by-zeros t d order held
 
 -- An accepted Delete leaves nothing of the domain and all of the others.
-pub deleted-gone : (v : Drive) (lent : Lengths) (d : ℕ)
-    → verdict v lent (Delete d) ≡ 0
-    → Gone d (v .table) (driveAfter v lent (Delete d) .table)
-deleted-gone v lent d accepted = runs.deleted-gone v lent d accepted
+pub deleted-gone : (v : Drive) (k : Call) (d : ℕ)
+    → verdict v (k asking Delete d) ≡ 0
+    → Gone d (v .table) (step (k asking Delete d) v .table)
+deleted-gone v k d accepted = runs.deleted-gone v k d accepted
 
 -- An accepted Read gives as many user addresses as it asks for, those that were expected, unless all ones was, which matches
 -- anything.
-pub read-words : (v : Drive) (lent : Lengths) (d address : ℕ) (count : Adus) (expected : ℕ)
-    → length (v .store) ≡ lent .store
+pub read-words : (v : Drive) (k : Call) (d address : ℕ) (count : Adus) (expected : ℕ)
+    → length (v .store) ≡ k .lent .store
     → let c = Read d address count expected in
-    verdict v lent c ≡ 0 → length (wordsFilled v lent c) ≡ count .0
-read-words v lent d address count expected own accepted = found.read-words v lent d address count expected own accepted
+    verdict v (k asking c) ≡ 0 → length (wordsFilled v (k asking c)) ≡ count .0
+read-words v k d address count expected own accepted = found.read-words v k d address count expected own accepted
 
-pub read-expected : (v : Drive) (lent : Lengths) (d address : ℕ) (count : Adus) (expected : ℕ)
+pub read-expected : (v : Drive) (k : Call) (d address : ℕ) (count : Adus) (expected : ℕ)
     → let c = Read d address count expected in
-    verdict v lent c ≡ 0
+    verdict v (k asking c) ≡ 0
     → ¬ (expected ≡ allOnes)
-    → (i : ℕ) → i < length (wordsFilled v lent c)
-    → getD (wordsFilled v lent c) i 0 ≡ userAddress expected i
-read-expected v lent d address count expected accepted told =
-    found.read-expected v lent d address count expected accepted told
+    → (i : ℕ) → i < length (wordsFilled v (k asking c))
+    → getD (wordsFilled v (k asking c)) i 0 ≡ userAddress expected i
+read-expected v k d address count expected accepted told =
+    found.read-expected v k d address count expected accepted told
 
 -- In a drive whose table has an entry for each block and whose store is the one that is lent:
-module _ (v : Drive) (lent : Lengths) (whole : size (v .table) ≤ length (v .table .blocks)) (own : length (v .store) ≡ lent .store) where
+module _ (v : Drive) (k : Call) (whole : size (v .table) ≤ length (v .table .blocks)) (own : length (v .store) ≡ k .lent .store) where
   -- Every ADU of a block that an accepted Erase answers holds all ones.
   pub erased-all-ones : (d n m : ℕ)
-      → verdict v lent (Erase d n) ≡ 0
-      → answerTo v lent (Erase d n) .values ≡ m ∷ []
+      → verdict v (k asking Erase d n) ≡ 0
+      → answerTo v (k asking Erase d n) .values ≡ m ∷ []
       → (a : FlashAddress) → a .block ≡ m → a .offset .0 < adusPerBlock (v .table .config) .0
-      → stored (driveAfter v lent (Erase d n)) a 1 ≡ allOnes ∷ []
-  erased-all-ones d n m accepted answer a same inside = found.erase-found v lent whole own d n m accepted answer a same inside
+      → stored (step (k asking Erase d n) v) a 1 ≡ allOnes ∷ []
+  erased-all-ones d n m accepted answer a same inside = found.erase-found v k whole own d n m accepted answer a same inside
 
   -- Each flash address that an accepted write hands back holds its user address; Write by block hands back one for each ADU.
   pub written-by-placement : (d p start : ℕ) (count : Adus)
       → let c = WriteByPlacement d p start count in
-      verdict v lent c ≡ 0 → Found (driveAfter v lent c) (wordsFilled v lent c) (userAddresses start (count .0))
-  written-by-placement d p start count accepted = found.placement-found v lent whole own d p start count accepted
+      verdict v (k asking c) ≡ 0 → Found (step (k asking c) v) (wordsFilled v (k asking c)) (userAddresses start (count .0))
+  written-by-placement d p start count accepted = found.placement-found v k whole own d p start count accepted
 
   pub written-by-block : (d n start : ℕ) (count : Adus)
       → let c = WriteByBlock d n start count in
-      verdict v lent c ≡ 0 → Found (driveAfter v lent c) (wordsFilled v lent c) (userAddresses start (count .0))
-  written-by-block d n start count accepted = found.block-found v lent whole own d n start count accepted
+      verdict v (k asking c) ≡ 0 → Found (step (k asking c) v) (wordsFilled v (k asking c)) (userAddresses start (count .0))
+  written-by-block d n start count accepted = found.block-found v k whole own d n start count accepted
 
-pub block-words : (v : Drive) (lent : Lengths) (d n start : ℕ) (count : Adus)
+pub block-words : (v : Drive) (k : Call) (d n start : ℕ) (count : Adus)
     → let c = WriteByBlock d n start count in
-    verdict v lent c ≡ 0 → length (wordsFilled v lent c) ≡ count .0
-block-words v lent d n start count accepted = found.block-words v lent d n start count accepted
+    verdict v (k asking c) ≡ 0 → length (wordsFilled v (k asking c)) ≡ count .0
+block-words v k d n start count accepted = found.block-words v k d n start count accepted

@@ -18,5 +18,7 @@ pub mod Kept
 pub mod Noninterference
 pub mod Countdown
 pub mod Example
+pub mod Told
 pub mod Laws
+pub mod Expiry
 pub mod Claims

@@ -9,36 +9,24 @@ use lib.ListN.{length}
 use borrow.Author.Tests.{eq-eqb, le-leb, le-ltb, lt-ltb, ltb-false, ltb-true}
 use Rattle.geometry.proofs.Laws.Shape.{both, by-test}
 use Rattle.geometry.specs.Bytes.{littleEndian}
+use Rattle.geometry.specs.declared.shape.Config.{Config}
 use Rattle.model.specs.declared.block.Block.{Block}
 use Rattle.model.specs.declared.command.Listed.the-variants as listed
 use Rattle.model.specs.declared.table.Table.{Table}
 use Rattle.rules.specs.Claims.{ClosedList, Layout, ascending}
 use Rattle.rules.specs.Counting.{numbersTo}
 use Rattle.rules.specs.Drive.{blockAt, closedCount, closedOf, openCount, openOf, size}
-use Rattle.rules.specs.LogPages.{OpenList, closedList, listLength, listOf, openMark, page, timesIn}
+use Rattle.rules.specs.LogPages.{OpenList, bytesOf, closedList, listLength, listOf, openMark, page, pageFields, timesIn}
 use Rattle.rules.proofs.Counting.{length-numbers, length-times, numbers-once, sum-same}
 
-pub page-length : (t : Table) (n : ℕ) → length (page t n) ≡ 256
-unfolding page littleEndian
-page-length t n = refl
+pub page-length : (c : Config) (n : ℕ) (b : Block) → length (page c n b) ≡ 256
+unfolding page bytesOf littleEndian
+page-length c n b = refl
 
-pub page-layout : (t : Table) (n : ℕ) → Layout t n (page t n)
-unfolding page littleEndian
-page-layout t n = record {
-  device = refl;
-  zero-byte = refl;
-  state = refl;
-  number = refl;
-  placement = refl;
-  domain = refl;
-  index = refl;
-  integrity-index = refl;
-  time-left = refl;
-  capacity-adus = refl;
-  written = refl;
-  serial = refl;
-  rest = refl;
-}
+pub page-layout : (c : Config) (n : ℕ) (b : Block) → Layout (pageFields c n b) (page c n b)
+unfolding Layout page bytesOf littleEndian
+page-layout c n b =
+    (refl, (refl, (refl, (refl, (refl, (refl, (refl, (refl, (refl, (refl, (refl, (refl, (refl, tt)))))))))))))
 
 -- A list has 8 bytes for each block and for the end mark.
 list-length : (t : Table) (mark : Block → ℕ) (ns : List ℕ) → length (listOf t mark ns) ≡ 8 * (length ns + 1)

@@ -1,60 +1,108 @@
 -- The questions of each command come in document 01's order, and where none is answered no, each is answered yes.
-use Prim.Native.Nat.{ℕ, zero, suc}
-use mathlib.Core.Bool.{Bool, true}
-use mathlib.Core.List.{List, [], _∷_}
-use mathlib.Core.Path.{_≡_, refl}
-use native.Mathlib.Omega.{arith}
-use lib.Dec.{ltb}
-use lib.ListN.{getD}
-use borrow.Author.Tests.{lt-ltb, ltb-true}
+use Prim.Native.Nat.{ℕ}
+use mathlib.Core.Bool.{Bool, true, cond}
+use mathlib.Core.List.{List, [], _∷_, _++_}
+use mathlib.Core.Path.{_≡_, refl, ap}
+use lib.Dec.{eqb, ltb}
+use borrow.Author.Tests.{ltb-true}
 use Rattle.geometry.proofs.Laws.Questions.{all-yes, positive}
-use Rattle.geometry.proofs.Laws.Shape.{both}
-use Rattle.geometry.specs.Questions.{Question, ask, firstNo}
+use Rattle.geometry.proofs.Laws.Shape.{both, by-test}
+use Rattle.geometry.specs.Questions.{Question, firstNo}
 use Rattle.model.specs.declared.command.Command.{Command}
 use Rattle.model.specs.declared.command.Command.the-variants.{ChangeCapacity, Close, Create, Delete, Erase, Free, List as Listing, Page, Pulse, Read}
 use Rattle.model.specs.declared.command.Command.the-variants.{WriteByBlock, WriteByPlacement}
+use Rattle.rules.specs.Calls.{Call, _asking_}
 use Rattle.rules.specs.Claims.{rising}
 use Rattle.rules.specs.Drive.{Drive}
 use Rattle.rules.specs.Effects.{verdict}
-use Rattle.rules.specs.Questions.{Lengths, questions}
+use Rattle.rules.specs.Questions.{questions}
 
 -- Soundness is the first question of every command, and the numbers of the others rise from there.
-pub in-order : (v : Drive) (lent : Lengths) (c : Command) → rising 1 (questions v lent c) ≡ true
+each-in-order : (v : Drive) (k : Call) (c : Command) → rising 1 (questions v (k asking c)) ≡ true
 unfolding questions rising
-in-order v lent (Create d guarantee quota placements limit) = refl
-in-order v lent (ChangeCapacity d guarantee quota) = refl
-in-order v lent (Delete d) = refl
-in-order v lent (Erase d n) = refl
-in-order v lent (Close d n) = refl
-in-order v lent (Free d n) = refl
-in-order v lent (WriteByPlacement d p start count) = refl
-in-order v lent (WriteByBlock d n start count) = refl
-in-order v lent (Read d address count expected) = refl
-in-order v lent (Page d n) = refl
-in-order v lent (Listing d which) = refl
-in-order v lent (Pulse seconds) = refl
+each-in-order v k (Create d guarantee quota placements limit) = refl
+each-in-order v k (ChangeCapacity d guarantee quota) = refl
+each-in-order v k (Delete d) = refl
+each-in-order v k (Erase d n) = refl
+each-in-order v k (Close d n) = refl
+each-in-order v k (Free d n) = refl
+each-in-order v k (WriteByPlacement d p start count) = refl
+each-in-order v k (WriteByBlock d n start count) = refl
+each-in-order v k (Read d address count expected) = refl
+each-in-order v k (Page d n) = refl
+each-in-order v k (Listing d which) = refl
+each-in-order v k (Pulse seconds) = refl
 
--- The answer to the k-th question of a list without a no.
-abbrev pub holdsAt : ℕ → List Question → Bool
-holdsAt k qs = getD qs k (ask 1 true) .holds
+pub in-order : (v : Drive) (k : Call) → rising 1 (questions v k) ≡ true
+in-order v k = each-in-order v k (k .command)
 
-pub yes-at : (k : ℕ) (qs : List Question) → positive qs ≡ true → firstNo qs ≡ 0 → holdsAt k qs ≡ true
+-- None has the number 0.
+each-positive : (v : Drive) (k : Call) (c : Command) → positive (questions v (k asking c)) ≡ true
+unfolding questions positive
+each-positive v k (Create d guarantee quota placements limit) = refl
+each-positive v k (ChangeCapacity d guarantee quota) = refl
+each-positive v k (Delete d) = refl
+each-positive v k (Erase d n) = refl
+each-positive v k (Close d n) = refl
+each-positive v k (Free d n) = refl
+each-positive v k (WriteByPlacement d p start count) = refl
+each-positive v k (WriteByBlock d n start count) = refl
+each-positive v k (Read d address count expected) = refl
+each-positive v k (Page d n) = refl
+each-positive v k (Listing d which) = refl
+each-positive v k (Pulse seconds) = refl
+
+pub none-zero : (v : Drive) (k : Call) → positive (questions v k) ≡ true
+none-zero v k = each-positive v k (k .command)
+
+-- The answer to the question with this number; yes where it is not put.
+abbrev pub answerIn : ℕ → List Question → Bool
+answerIn n [] = true
+answerIn n (q ∷ qs) = cond (eqb (q .number) n) (q .holds) (answerIn n qs)
+
+-- Of a list without a no every answer is yes, ..
+pub yes-in : (n : ℕ) (qs : List Question) → positive qs ≡ true → firstNo qs ≡ 0 → answerIn n qs ≡ true
 unfolding positive
-yes-at k [] p e = refl
-yes-at zero (q ∷ qs) p e =
-    all-yes (q .number) (q .holds) qs (ltb-true 0 (q .number) (both (ltb 0 (q .number)) (positive qs) p .0)) e .0
-yes-at (suc k) (q ∷ qs) p e =
+yes-in n [] p e = refl
+yes-in n (q ∷ qs) p e =
     let h = both (ltb 0 (q .number)) (positive qs) p in
-    yes-at k qs (h .1) (all-yes (q .number) (q .holds) qs (ltb-true 0 (q .number) (h .0)) e .1)
+    let y = all-yes (q .number) (q .holds) qs (ltb-true 0 (q .number) (h .0)) e in
+    by-test (eqb (q .number) n) (λ same. rw same (y .0)) (λ other. rw other (yes-in n qs (h .1) (y .1)))
 
--- So no question has the number 0.
-pub all-positive : (last : ℕ) (qs : List Question) → rising last qs ≡ true → positive qs ≡ true
-unfolding rising positive
-all-positive last [] e = refl
-all-positive last (q ∷ qs) e =
-    let h = both (ltb last (q .number)) (rising (q .number) qs) e in
-    rw (lt-ltb 0 (q .number) (omega (arith, ltb-true last (q .number) (h .0))), all-positive (q .number) qs (h .1))
+-- .. and so it is of an accepted call.
+pub answered-yes : (v : Drive) (k : Call) (n : ℕ) → verdict v k ≡ 0 → answerIn n (questions v k) ≡ true
+answered-yes v k n e = yes-in n (questions v k) (none-zero v k) e
 
--- The answer to the k-th question of an accepted command.
-pub answered-yes : (v : Drive) (lent : Lengths) (c : Command) (k : ℕ) → verdict v lent c ≡ 0 → holdsAt k (questions v lent c) ≡ true
-answered-yes v lent c k e = yes-at k (questions v lent c) (all-positive 1 (questions v lent c) (in-order v lent c)) e
+-- ---- Questions in parts
+
+-- The questions behind the one with this number, before it, and from it on.
+abbrev pub after : ℕ → List Question → List Question
+after n [] = []
+after n (q ∷ qs) = cond (eqb (q .number) n) qs (after n qs)
+
+abbrev pub before : ℕ → List Question → List Question
+before n [] = []
+before n (q ∷ qs) = cond (eqb (q .number) n) [] (q ∷ before n qs)
+
+abbrev pub from : ℕ → List Question → List Question
+from n [] = []
+from n (q ∷ qs) = cond (eqb (q .number) n) (q ∷ qs) (from n qs)
+
+pub in-parts : (n : ℕ) (qs : List Question) → before n qs ++ from n qs ≡ qs
+in-parts n [] = refl
+in-parts n (q ∷ qs) =
+    by-test (eqb (q .number) n) (λ e. rw e) (λ e. rw e (ap (λ (rs : List Question). q ∷ rs) (in-parts n qs)))
+
+pub positive-before : (n : ℕ) (qs : List Question) → positive qs ≡ true → positive (before n qs) ≡ true
+unfolding positive
+positive-before n [] p = refl
+positive-before n (q ∷ qs) p =
+    let h = both (ltb 0 (q .number)) (positive qs) p in
+    by-test (eqb (q .number) n) (λ e. rw e) (λ e. rw (e, h .0) (positive-before n qs (h .1)))
+
+pub positive-after : (n : ℕ) (qs : List Question) → positive qs ≡ true → positive (after n qs) ≡ true
+unfolding positive
+positive-after n [] p = refl
+positive-after n (q ∷ qs) p =
+    let h = both (ltb 0 (q .number)) (positive qs) p in
+    by-test (eqb (q .number) n) (λ e. rw e (h .1)) (λ e. rw e (positive-after n qs (h .1)))

@@ -23,12 +23,12 @@ use Rattle.model.specs.declared.command.Command.the-variants.{WriteByBlock, Wri
 use Rattle.model.specs.declared.table.Domain.{Domain}
 use Rattle.model.specs.declared.table.Table.{Table}
 use Rattle.rules.specs.Blocks.{chosenBlock, erasedBlock, newBlocks, nextSerial, openedFor, room, userAddresses, withLast, writtenByPlacement, writtenFirst, writtenInto, writtenNext, writtenOnwards}
+use Rattle.rules.specs.Calls.{Call, _asking_, ownDomain}
 use Rattle.rules.specs.Claims.{Gone, Reached}
 use Rattle.rules.specs.Domains.{deletedDomain}
 use Rattle.rules.specs.Drive.{Drive, blockAt, capacity, domainAt, heldBy, isOpen, isOpenState, openBlock, size, withBlock, withDomain, withEachBlock}
-use Rattle.rules.specs.Effects.{accepted, driveAfter, effect, erasing, verdict}
-use Rattle.rules.specs.Questions.{Lengths, questions}
-use Rattle.rules.specs.Runs.{ownDomain}
+use Rattle.rules.specs.Effects.{accepted, effect, erasing, step, verdict}
+use Rattle.rules.specs.Questions.{questions}
 use Rattle.rules.proofs.Domains.{deleted-clear, deleted-holds-nothing, deleted-others}
 use Rattle.rules.proofs.Drive.{block-changed, block-changed-below, block-set, domain-other, domain-set}
 use Rattle.rules.proofs.Effects.{accepted-drive}
@@ -182,33 +182,33 @@ FollowsFrom c t u = Follows (ownDomain c) (domainAt t (ownDomain c) .last) (t .c
 begins : (t : Table) (d : ℕ) → OnTheWay d (domainAt t d .last) (t .config .period) t
 begins t d = record { serial = omega arith; seconds = refl }
 
-effect-follows : (v : Drive) (lent : Lengths) (c : Command) → verdict v lent c ≡ 0 → FollowsFrom c (v .table) (effect c v .drive .table)
+effect-follows : (v : Drive) (call : Call) (c : Command) → verdict v (call asking c) ≡ 0 → FollowsFrom c (v .table) (effect v (call asking c) .drive .table)
 unfolding questions effect
-effect-follows v lent (Create d guarantee quota placements limit) e =
-    domain d _ _ (v .table) _ (positive d (answered-yes v lent (Create d guarantee quota placements limit) 1 e))
-effect-follows v lent (ChangeCapacity d guarantee quota) e =
-    domain d _ _ (v .table) _ (positive d (answered-yes v lent (ChangeCapacity d guarantee quota) 1 e))
-effect-follows v lent (Delete d) e = deleted-follows d _ _ (v .table) (positive d (answered-yes v lent (Delete d) 1 e))
-effect-follows v lent (Erase d n) e =
-    erasing-follows d _ _ (erasedBlock (v .table) n) v (positive d (answered-yes v lent (Erase d n) 2 e)) (begins (v .table) d)
-effect-follows v lent (Close d n) e = block d _ _ (v .table) n closing refl
-effect-follows v lent (Free d n) e = block d _ _ (v .table) n freeing refl
-effect-follows v lent (WriteByPlacement d p start count) e =
+effect-follows v call (Create d guarantee quota placements limit) e =
+    domain d _ _ (v .table) _ (positive d (answered-yes v (call asking Create d guarantee quota placements limit) 4 e))
+effect-follows v call (ChangeCapacity d guarantee quota) e =
+    domain d _ _ (v .table) _ (positive d (answered-yes v (call asking ChangeCapacity d guarantee quota) 4 e))
+effect-follows v call (Delete d) e = deleted-follows d _ _ (v .table) (positive d (answered-yes v (call asking Delete d) 4 e))
+effect-follows v call (Erase d n) e =
+    erasing-follows d _ _ (erasedBlock (v .table) n) v (positive d (answered-yes v (call asking Erase d n) 4 e)) (begins (v .table) d)
+effect-follows v call (Close d n) e = block d _ _ (v .table) n closing refl
+effect-follows v call (Free d n) e = block d _ _ (v .table) n freeing refl
+effect-follows v call (WriteByPlacement d p start count) e =
     placement-follows d _ _ p (userAddresses start (count .0)) v
-    (positive d (answered-yes v lent (WriteByPlacement d p start count) 2 e))
+    (positive d (answered-yes v (call asking WriteByPlacement d p start count) 4 e))
     (begins (v .table) d)
-effect-follows v lent (WriteByBlock d n start count) e = written-follows d _ _ n (userAddresses start (count .0)) v
-effect-follows v lent (Read d address count expected) e = same d _ _ (v .table)
-effect-follows v lent (Page d n) e = same d _ _ (v .table)
-effect-follows v lent (Listing d which) e = same d _ _ (v .table)
-effect-follows v lent (Pulse seconds) e = each-block 0 _ _ (v .table) _ (λ b. by-one 0 _ _ (counting seconds) b refl)
+effect-follows v call (WriteByBlock d n start count) e = written-follows d _ _ n (userAddresses start (count .0)) v
+effect-follows v call (Read d address count expected) e = same d _ _ (v .table)
+effect-follows v call (Page d n) e = same d _ _ (v .table)
+effect-follows v call (Listing d which) e = same d _ _ (v .table)
+effect-follows v call (Pulse seconds) e = each-block 0 _ _ (v .table) _ (λ b. by-one 0 _ _ (counting seconds) b refl)
 
-pub follows : (v : Drive) (lent : Lengths) (c : Command) → FollowsFrom c (v .table) (driveAfter v lent c .table)
-unfolding driveAfter
-follows v lent c =
-    by-test (accepted v lent c)
-    (λ e. rw e (effect-follows v lent c (eqb-true (verdict v lent c) 0 e)))
-    (λ e. rw e (same (ownDomain c) _ _ (v .table)))
+pub follows : (v : Drive) (k : Call) → FollowsFrom (k .command) (v .table) (step k v .table)
+unfolding step
+follows v k =
+    by-test (accepted v k)
+    (λ e. rw e (effect-follows v k (k .command) (eqb-true (verdict v k) 0 e)))
+    (λ e. rw e (same (ownDomain (k .command)) _ _ (v .table)))
 
 -- ---- What Pulse and Delete leave of the blocks
 
@@ -218,28 +218,28 @@ counted-others (state.Closed way) seconds b e = refl
 counted-others (state.Open way) seconds b e = absurd (true≢false e)
 
 -- A pulse counts down the record of each open block and changes no other record.
-pub pulse-open : (v : Drive) (lent : Lengths) (seconds n : ℕ) → verdict v lent (Pulse seconds) ≡ 0 → n < size (v .table)
-    → blockAt (driveAfter v lent (Pulse seconds) .table) n ≡ countedDown seconds (blockAt (v .table) n)
+pub pulse-open : (v : Drive) (call : Call) (seconds n : ℕ) → verdict v (call asking Pulse seconds) ≡ 0 → n < size (v .table)
+    → blockAt (step (call asking Pulse seconds) v .table) n ≡ countedDown seconds (blockAt (v .table) n)
 unfolding effect countedDown
-pulse-open v lent seconds n e l =
-    rw (accepted-drive v lent (Pulse seconds) e) (block-changed-below (countedDown seconds) (v .table) n refl l)
+pulse-open v call seconds n e l =
+    rw (accepted-drive v (call asking Pulse seconds) e) (block-changed-below (countedDown seconds) (v .table) n refl l)
 
-pub pulse-others : (v : Drive) (lent : Lengths) (seconds n : ℕ) → isOpen (blockAt (v .table) n) ≡ false
-    → blockAt (driveAfter v lent (Pulse seconds) .table) n ≡ blockAt (v .table) n
-unfolding effect countedDown driveAfter
-pulse-others v lent seconds n e =
+pub pulse-others : (v : Drive) (call : Call) (seconds n : ℕ) → isOpen (blockAt (v .table) n) ≡ false
+    → blockAt (step (call asking Pulse seconds) v .table) n ≡ blockAt (v .table) n
+unfolding effect countedDown step
+pulse-others v call seconds n e =
     let b = blockAt (v .table) n in
-    by-test (accepted v lent (Pulse seconds))
+    by-test (accepted v (call asking Pulse seconds))
     (λ q. rw q (block-changed (λ x. x ≡ b) (countedDown seconds) (v .table) n refl (counted-others (b .state) seconds b e)))
     (λ q. rw q)
 
-pub deleted-gone : (v : Drive) (lent : Lengths) (d : ℕ) → verdict v lent (Delete d) ≡ 0
-    → Gone d (v .table) (driveAfter v lent (Delete d) .table)
+pub deleted-gone : (v : Drive) (call : Call) (d : ℕ) → verdict v (call asking Delete d) ≡ 0
+    → Gone d (v .table) (step (call asking Delete d) v .table)
 unfolding effect questions
-deleted-gone v lent d e =
+deleted-gone v call d e =
     let t = v .table in
-    let p = positive d (answered-yes v lent (Delete d) 1 e) in
-    rw (accepted-drive v lent (Delete d) e)
+    let p = positive d (answered-yes v (call asking Delete d) 4 e) in
+    rw (accepted-drive v (call asking Delete d) e)
     (record {
       clear = deleted-clear t d;
       holds-nothing = λ n l. deleted-holds-nothing t d n p l;

@@ -9,9 +9,10 @@ use Rattle.geometry.specs.Questions.{answered, firstNo, refusal, success}
 use Rattle.geometry.specs.Shape.{eachInRange, withinLimits}
 use Rattle.geometry.specs.declared.shape.Config.{Config}
 use Rattle.model.specs.declared.block.Block.{Block}
+use Rattle.model.specs.declared.table.Domain.{Domain}
 use Rattle.rules.specs.Domains.{coverage, covered, reservedBy}
-use Rattle.rules.specs.Drive.{blockAt, clearBlock, clearDomain, domainAt, eachBlock, eachDomain, heldCount}
-use Rattle.rules.specs.Soundness.{eachPair, freeIsClear, holderExists, missingIsClear, openLimitKept, placementExists, placementsDiffer, quotaKept, serialGiven, serialsDiffer, sound}
+use Rattle.rules.specs.Drive.{blockAt, clearBlock, clearDomain, domainAt, heldCount}
+use Rattle.rules.specs.Soundness.{blockSound, domainSound, eachPair, placementsDiffer, serialsDiffer, sound}
 use Rattle.rules.specs.Start.{emptyTable, started, tableOfZeros}
 use Rattle.rules.proofs.Counting.{each-all, sum-zero}
 use Rattle.rules.proofs.Drive.{get-replicate}
@@ -36,19 +37,18 @@ none-held : (c : Config) (d : ℕ) → 0 < d → heldCount (emptyTable c) d ≡ 
 unfolding heldCount
 none-held c d p = sum-zero (c .blocks) _ (λ n l. rw (clear-block c n, ne-eqb 0 d (λ e. omega arith)))
 
--- A test that a clear block passes, every block of an empty table passes; so of every two, and of every domain.
-blocks-pass : (c : Config) (p : Block → Bool) → p clearBlock ≡ true → eachBlock (emptyTable c) p ≡ true
-blocks-pass c p e = each-all (c .blocks) _ (λ n l. rw (clear-block c n) e)
-
+-- A test that two clear blocks pass, every two blocks of an empty table pass. Each of its blocks and domains is sound.
 pairs-pass : (c : Config) (p : Block → Block → Bool) → p clearBlock clearBlock ≡ true → eachPair (emptyTable c) p ≡ true
 pairs-pass c p e =
     each-all (c .blocks) _ (λ n l. each-all n _ (λ m k. rw (clear-block c n, clear-block c m) e))
 
-domains-pass : (p : ℕ → Bool) → ((d : ℕ) → 0 < d → p d ≡ true) → eachDomain p ≡ true
-domains-pass p h = each-all 16 _ (λ i l. h (i + 1) (omega arith))
+clear-sound : (capacity period : ℕ) (r : Domain) → blockSound capacity period r clearBlock ≡ true
+unfolding blockSound
+clear-sound capacity period r = refl
 
-quota-kept : (c : Config) (d : ℕ) → 0 < d → quotaKept (emptyTable c) d ≡ true
-quota-kept c d p = rw (clear-domain c d, none-held c d p, le-leb 0 (c .blocks) (omega arith))
+missing-sound : (blocks opened : ℕ) → domainSound blocks 0 opened clearDomain ≡ true
+unfolding domainSound
+missing-sound blocks opened = rw (le-leb 0 blocks (omega arith))
 
 no-coverage : (c : Config) → coverage (reservedBy (emptyTable c)) (heldCount (emptyTable c)) ≡ 0
 unfolding coverage
@@ -64,17 +64,12 @@ pub empty-sound : (c : Config) → withinLimits c ≡ true → sound (emptyTable
 empty-sound c e =
     together (emptyTable c) (record {
       limits = e;
-      quotas = domains-pass (quotaKept (emptyTable c)) (quota-kept c);
+      domains = each-all 16 _ (λ i l.
+          rw (clear-domain c (i + 1), none-held c (i + 1) (omega arith)) (missing-sound (c .blocks) _));
       coverage = is-covered c;
-      open-limits = domains-pass (openLimitKept (emptyTable c)) (λ d p. rw (clear-domain c d));
+      blocks = each-all (c .blocks) _ (λ n l. rw (clear-block c n) (clear-sound _ _ _));
       serials-differ = pairs-pass c serialsDiffer refl;
-      serials-given = blocks-pass c (serialGiven (emptyTable c)) refl;
-      holders = blocks-pass c (holderExists (emptyTable c)) refl;
-      placements = blocks-pass c (placementExists (emptyTable c)) refl;
       placements-differ = pairs-pass c placementsDiffer refl;
-      counts = each-all (c .blocks) _ (λ n l. rw (clear-block c n));
-      free-clear = blocks-pass c freeIsClear refl;
-      missing-clear = domains-pass (λ d. missingIsClear (domainAt (emptyTable c) d)) (λ d p. rw (clear-domain c d));
     })
 
 pub start-accepted : (c : Config) → withinLimits c ≡ true → started c ≡ record { answer = success []; table = emptyTable c }

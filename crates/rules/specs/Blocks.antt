@@ -6,7 +6,7 @@ use mathlib.Core.Option.{Option, none, some}
 use lib.Dec.{eqb, ltb}
 use lib.ListN.{drop, getD, length, replicate, take}
 use Rattle.geometry.specs.Address.{wordOf}
-use Rattle.geometry.specs.Shape.{adus, adusPerBlock, stretchStart}
+use Rattle.geometry.specs.Shape.{adus, stretchStart}
 use Rattle.geometry.specs.declared.address.FlashAddress.{FlashAddress}
 use Rattle.model.specs.Blocks.{closed, countedDown, freed, opened, writtenOn}
 use Rattle.model.specs.declared.block.Way.{Way}
@@ -14,7 +14,7 @@ use Rattle.model.specs.declared.block.Way.the-variants.{Placement}
 use Rattle.model.specs.declared.table.Domain.{Domain}
 use Rattle.model.specs.declared.table.Table.{Table}
 use Rattle.rules.specs.Counting.{allTo, rowTo}
-use Rattle.rules.specs.Drive.{Drive, blockAt, capacity, domainAt, isFree, openBlock, overwritten, size, withBlock, withDomain, withEachBlock}
+use Rattle.rules.specs.Drive.{Drive, blockAt, capacity, domainAt, isFree, newCapacity, openBlock, overwritten, size, withBlock, withDomain, withEachBlock}
 
 -- All 64 bits ones.
 abbrev pub allOnes : ℕ
@@ -113,7 +113,7 @@ room t d p = roomIn t (openBlock t d p)
 -- How many blocks so many ADUs open: another is opened only when an ADU remains.
 unfoldable pub newBlocks : Table → ℕ → ℕ → ℕ → ℕ
 newBlocks t d p count =
-    let perBlock = adusPerBlock (t .config) .0 in (count - room t d p + (perBlock - 1)) / perBlock
+    let perBlock = newCapacity t .0 in (count - room t d p + (perBlock - 1)) / perBlock
 
 -- First into the placement's open block, ..
 abbrev pub writtenFirst : ℕ → Option ℕ → List ℕ → Drive → Written
@@ -128,7 +128,7 @@ writtenNext d p (some n) users v = writtenInto d n users (openedFor d (Placement
 unfoldable pub writtenOnwards : ℕ → ℕ → ℕ → List ℕ → Drive → Written
 writtenOnwards d p zero users v = record { drive = v; addresses = [] }
 writtenOnwards d p (suc more) users v =
-    let perBlock = adusPerBlock (v .table .config) .0 in
+    let perBlock = newCapacity (v .table) .0 in
     let next = writtenNext d p (chosenBlock (v .table)) (take perBlock users) v in
     let rest = writtenOnwards d p more (drop perBlock users) (next .drive) in
     record { drive = rest .drive; addresses = next .addresses ++ rest .addresses }

@@ -4,7 +4,7 @@ use mathlib.Core.Bool.{Bool, true, false, _&&_, cond}
 use mathlib.Core.List.{List, [], _∷_}
 use mathlib.Core.Path.{_≡_}
 use lib.Dec.{leb, ltb}
-use lib.ListN.{drop, getD, length, replicate, take}
+use lib.ListN.{drop, getD, length, take}
 use Rattle.geometry.specs.Address.{fieldsOf}
 use Rattle.geometry.specs.Bytes.{littleEndian}
 use Rattle.geometry.specs.Questions.{Question, refusal}
@@ -13,11 +13,11 @@ use Rattle.model.specs.Blocks.{Change, allChanges, changedBy, opensNewly}
 use Rattle.model.specs.declared.block.Block.{Block}
 use Rattle.model.specs.declared.table.Table.{Table}
 use Rattle.rules.specs.Blocks.{stored}
+use Rattle.rules.specs.Calls.{Call}
 use Rattle.rules.specs.Domains.{covered}
-use Rattle.rules.specs.Drive.{Drive, blockAt, capacity, clearDomain, closedOf, domainAt, heldBy, heldCount, isFree, isOpen, size}
+use Rattle.rules.specs.Drive.{Drive, blockAt, clearDomain, closedOf, domainAt, heldBy, heldCount, isFree, size}
 use Rattle.rules.specs.Effects.{Served}
-use Rattle.rules.specs.LogPages.{integrity, listOf, placementField, stateByte, timesIn, wearIndex}
-use Rattle.rules.specs.Questions.{Lengths}
+use Rattle.rules.specs.LogPages.{Field, integrity, listOf, timesIn}
 use Rattle.rules.specs.Soundness.{sound}
 
 -- Questions whose numbers rise, from above the last one to at most 16.
@@ -72,21 +72,11 @@ pub record ClosedList (t : Table) (d : ℕ) (bytes : List ℕ) : Type 0 where
 abbrev pub bytesAt : ℕ → ℕ → List ℕ → List ℕ
 bytesAt place width bytes = take width (drop place bytes)
 
--- Super Block Information with each field where document 01 puts it.
-pub record Layout (t : Table) (n : ℕ) (bytes : List ℕ) : Type 0 where
-  pub device : bytesAt 0 2 bytes ≡ littleEndian 2 1
-  pub zero-byte : bytesAt 2 1 bytes ≡ littleEndian 1 0
-  pub state : bytesAt 3 1 bytes ≡ littleEndian 1 (stateByte (blockAt t n .state))
-  pub number : bytesAt 4 4 bytes ≡ littleEndian 4 n
-  pub placement : bytesAt 8 2 bytes ≡ littleEndian 2 (placementField (blockAt t n .state))
-  pub domain : bytesAt 10 2 bytes ≡ littleEndian 2 (blockAt t n .holder)
-  pub index : bytesAt 12 1 bytes ≡ littleEndian 1 (wearIndex (t .config) (blockAt t n .erases))
-  pub integrity-index : bytesAt 13 1 bytes ≡ littleEndian 1 (integrity (blockAt t n))
-  pub time-left : bytesAt 14 2 bytes ≡ littleEndian 2 0
-  pub capacity-adus : bytesAt 16 4 bytes ≡ littleEndian 4 (capacity t n .0)
-  pub written : bytesAt 20 4 bytes ≡ littleEndian 4 (cond (isOpen (blockAt t n)) (blockAt t n .written .0) 0)
-  pub serial : bytesAt 24 4 bytes ≡ littleEndian 4 (blockAt t n .serial)
-  pub rest : drop 28 bytes ≡ replicate 228 0
+-- Each field stands in its place: the bytes there, as many as it has, are its value.
+unfoldable pub Layout : List Field → List ℕ → Type 0
+Layout [] bytes = Unit {0}
+Layout (f ∷ fs) bytes =
+    (bytesAt (f .place) (f .width) bytes ≡ littleEndian (f .width) (f .value)) × Layout fs bytes
 
 -- Covered means that the coverage rule holds; no quota is passed when no domain holds more blocks than its quota.
 pub record Guaranteed (t : Table) : Type 0 where
@@ -98,10 +88,10 @@ pub record Shaped (t : Table) : Type 0 where
   pub domains : length (t .domains) ≡ 16
   pub blocks : length (t .blocks) ≡ 256
 
--- A call that is lent S × C entries is lent the drive's own store.
-abbrev pub LentOwn : Drive → Lengths → Type 0
-LentOwn v lent =
-    lent .store ≡ storeLength (v .table .config) .0 → length (v .store) ≡ storeLength (v .table .config) .0
+-- Where a call is lent S × C entries, the drive's store has as many: it is the one that is lent.
+abbrev pub LentOwn : Drive → Call → Type 0
+LentOwn v k =
+    k .lent .store ≡ storeLength (v .table .config) .0 → length (v .store) ≡ storeLength (v .table .config) .0
 
 -- What a call leaves of a drive with a sound table: another, of the same shape, and a store of as many entries.
 pub record StillSound (v w : Drive) : Type 0 where

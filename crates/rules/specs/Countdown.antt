@@ -1,36 +1,20 @@
 -- An open block's expiry runs from its erase: the seconds that have passed since a block was opened.
-use Prim.Native.Nat.{ℕ, _+_}
-use mathlib.Core.Bool.{Bool, _&&_, cond}
+use Prim.Native.Nat.{ℕ, _+_, _≤_, _<_}
+use mathlib.Core.Bool.{Bool, true, false, _&&_, cond}
 use mathlib.Core.List.{List, [], _∷_}
-use Rattle.model.specs.declared.command.Command.{Command}
-use Rattle.model.specs.declared.command.Command.the-variants.{ChangeCapacity, Close, Create, Delete, Erase, Free, List as Listing, Page, Pulse, Read}
-use Rattle.model.specs.declared.command.Command.the-variants.{WriteByBlock, WriteByPlacement}
-use Rattle.rules.specs.Drive.{Drive, blockAt, isClosed, isOpen}
-use Rattle.rules.specs.Effects.{accepted}
-use Rattle.rules.specs.Questions.{Lengths}
-use Rattle.rules.specs.Runs.{Call, step}
+use mathlib.Core.Path.{_≡_}
+use Rattle.model.specs.Blocks.{oneMoreErase}
+use Rattle.model.specs.declared.command.Command.the-variants.{Pulse}
+use Rattle.rules.specs.Calls.{Call, _asking_, isPulse, profile}
+use Rattle.rules.specs.Drive.{Drive, blockAt, domainAt, isClosed, isOpen}
+use Rattle.rules.specs.Effects.{accepted, step}
 
--- The seconds of a pulse; no other command has any.
-abbrev pub secondsOf : Command → ℕ
-secondsOf (Create d guarantee quota placements limit) = 0
-secondsOf (ChangeCapacity d guarantee quota) = 0
-secondsOf (Delete d) = 0
-secondsOf (Erase d n) = 0
-secondsOf (Close d n) = 0
-secondsOf (Free d n) = 0
-secondsOf (WriteByPlacement d p start count) = 0
-secondsOf (WriteByBlock d n start count) = 0
-secondsOf (Read d address count expected) = 0
-secondsOf (Page d n) = 0
-secondsOf (Listing d which) = 0
-secondsOf (Pulse seconds) = seconds
-
--- Those of a call, if it is an accepted pulse.
+-- The seconds of a call, if it is an accepted pulse.
 abbrev pub pulseOf : Drive → Call → ℕ
-pulseOf v k = cond (accepted v (k .lent) (k .command)) (secondsOf (k .command)) 0
+pulseOf v k = cond (accepted v k) (profile (k .command) .seconds) 0
 
--- The seconds of the accepted pulses since block n was opened, as they stand after a list of calls; a block that is not open has
--- none, so an opening begins at 0.
+-- The seconds of the accepted pulses since block n was opened, of a block that is open after a list of calls: every call before which it
+-- is not open begins them at 0.
 unfoldable pub elapsedFrom : ℕ → ℕ → List Call → Drive → ℕ
 elapsedFrom seconds n [] v = seconds
 elapsedFrom seconds n (k ∷ ks) v =
@@ -40,6 +24,21 @@ abbrev pub elapsed : ℕ → List Call → Drive → ℕ
 elapsed n ks v = elapsedFrom 0 n ks v
 
 -- A pulse closes block n.
-abbrev pub closesByPulse : ℕ → Drive → ℕ → Lengths → Bool
-closesByPulse n v seconds lent =
-    isOpen (blockAt (v .table) n) && isClosed (blockAt (step (record { command = Pulse seconds; lent = lent }) v .table) n)
+abbrev pub closesByPulse : ℕ → Drive → ℕ → Call → Bool
+closesByPulse n v seconds k =
+    isOpen (blockAt (v .table) n) && isClosed (blockAt (step (k asking Pulse seconds) v .table) n)
+
+-- ---- What a call may do to an open block
+
+-- What call k, from drive v to drive w, makes of block n. If it opens it, it is accepted, counts an erase and gives a serial above the
+-- last one that the block's domain had; if it is a pulse and closes it, no second is left.
+pub record Expires (n : ℕ) (k : Call) (v w : Drive) : Type 0 where
+  pub opens-by-erase : isOpen (blockAt (v .table) n) ≡ false
+      → isOpen (blockAt (w .table) n) ≡ true
+      → (accepted v k ≡ true)
+      × (blockAt (w .table) n .erases ≡ oneMoreErase (blockAt (v .table) n .erases))
+      × (domainAt (v .table) (blockAt (w .table) n .holder) .last < blockAt (w .table) n .serial)
+  pub closes-in-time : isPulse (k .command) ≡ true
+      → isOpen (blockAt (v .table) n) ≡ true
+      → isOpen (blockAt (w .table) n) ≡ false
+      → blockAt (v .table) n .left ≤ pulseOf v k

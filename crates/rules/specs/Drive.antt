@@ -5,8 +5,10 @@ use mathlib.Core.List.{List, _++_, map}
 use mathlib.Core.Option.{Option, none, some}
 use lib.Dec.{eqb}
 use lib.ListN.{drop, getD, length, set, take}
-use Rattle.geometry.specs.Shape.{adus, adusPerBlock}
+use Rattle.geometry.specs.Shape.{adusPerBlock}
 use Rattle.geometry.specs.declared.shape.Adus.{Adus}
+use Rattle.geometry.specs.declared.shape.Config.{Config}
+use Rattle.model.specs.Blocks.{freeBlock}
 use Rattle.model.specs.declared.block.Block.{Block}
 use Rattle.model.specs.declared.block.State.{State}
 use Rattle.model.specs.declared.block.State.the-variants.{Closed, Free, Open}
@@ -21,7 +23,7 @@ pub record Drive : Type 0 where
 
 -- A clear record of a block and of a domain.
 abbrev pub clearBlock : Block
-clearBlock = record { state = Free; holder = 0; written = adus 0; left = 0; erases = 0; serial = 0 }
+clearBlock = freeBlock 0
 
 abbrev pub clearDomain : Domain
 clearDomain = record { exists = false; reserved = 0; quota = 0; placements = 0; limit = 0; last = 0 }
@@ -38,13 +40,17 @@ abbrev pub size : Table → ℕ
 size t = t .config .blocks
 
 -- The ADUs of block n, which are C for every block.
+abbrev pub blockAdus : Config → ℕ → Adus
+blockAdus c n = adusPerBlock c
+
 abbrev pub capacity : Table → ℕ → Adus
-capacity t n = adusPerBlock (t .config)
+capacity t n = blockAdus (t .config) n
 
--- A test of every block of the drive, and of every domain ID.
-abbrev pub eachBlock : Table → (Block → Bool) → Bool
-eachBlock t p = allTo (λ n. p (blockAt t n)) (size t)
+-- The ADUs of a block that a write opens, whichever is chosen: C.
+abbrev pub newCapacity : Table → Adus
+newCapacity t = adusPerBlock (t .config)
 
+-- A test of every domain ID.
 abbrev pub eachDomain : (ℕ → Bool) → Bool
 eachDomain p = allTo (λ i. p (i + 1)) 16
 

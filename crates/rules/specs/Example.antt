@@ -4,31 +4,33 @@
 use Prim.Native.Nat.{ℕ, _*_, _^_}
 use mathlib.Core.Bool.{true}
 use mathlib.Core.List.{List, [], _∷_, _++_, map}
+use mathlib.Core.Option.{none, some}
 use mathlib.Core.Path.{_≡_}
 use lib.ListN.{replicate}
 use Rattle.geometry.specs.Address.{wordOf}
 use Rattle.geometry.specs.Questions.{Outcome}
 use Rattle.geometry.specs.Shape.{adus, planes}
+use Rattle.model.specs.declared.command.Command.{Command}
 use Rattle.model.specs.declared.command.Command.the-variants.{ChangeCapacity, Close, Create, Delete, Erase, Free, List as Listing, Page, Pulse, Read}
 use Rattle.model.specs.declared.command.Command.the-variants.{WriteByBlock, WriteByPlacement}
 use Rattle.model.specs.declared.command.Listed.the-variants as listed
 use Rattle.rules.specs.Blocks.{anyBlock}
+use Rattle.rules.specs.Calls.{Call, lending}
 use Rattle.rules.specs.Drive.{Drive}
 use Rattle.rules.specs.Noninterference.{fullyReserved, inputs}
-use Rattle.rules.specs.Observation.{Input, Name, Request, serialAt}
-use Rattle.rules.specs.ProvedTable.{call, calls, domain1, enough, freshStore, heldIn, small}
-use Rattle.rules.specs.Questions.{Lengths}
-use Rattle.rules.specs.Runs.{Call, answers, begun, run}
+use Rattle.rules.specs.Observation.{Input, Name, Naming, Request, serialAt}
+use Rattle.rules.specs.ProvedTable.{call, calls, domain1, freshStore, heldIn, small}
+use Rattle.rules.specs.Runs.{answers, begun, run}
 use Rattle.rules.specs.WrongTurns.{guest}
 
 -- ---- A's requests
 
--- A store that is one entry short, and an output for 27 words.
-abbrev pub shortStore : Lengths
-shortStore = record { store = 1023; words = 256; bytes = 256 }
+-- With a store that is one entry short, and with an output for 27 words.
+abbrev pub withShortStore : Command → Call
+withShortStore c = lending c 1023 256 256
 
-abbrev pub shortOutput : Lengths
-shortOutput = record { store = 1024; words = 27; bytes = 256 }
+abbrev pub withShortOutput : Command → Call
+withShortOutput c = lending c 1024 27 256
 
 -- A Delete that comes too early (5); A reserves 3 blocks and may hold no more; an Erase, and one with a short store (3).
 abbrev pub begins : List Call
@@ -36,16 +38,17 @@ begins =
     call (Delete 1)
     ∷ call domain1
     ∷ call (Erase 1 anyBlock)
-    ∷ record { command = Erase 1 anyBlock; lent = shortStore }
+    ∷ withShortStore (Erase 1 anyBlock)
     ∷ []
 
 -- Writes into the erased block, which is block n1 in this run, and by placement into another, n2.
 abbrev pub writes : ℕ → List Call
 writes n1 = calls (WriteByBlock 1 n1 5 (adus 10) ∷ WriteByPlacement 1 0 100 (adus 100) ∷ [])
 
--- A write that fills n2 and goes on in a third block, n3; an Erase that passes the quota (13).
-abbrev pub writesOn : List Call
-writesOn = calls (WriteByPlacement 1 0 200 (adus 30) ∷ Erase 1 anyBlock ∷ Pulse 59 ∷ [])
+-- A write that fills n2 and goes on in a third block, n3; an Erase that passes the quota (13); a pulse of 59 seconds, with which
+-- the two lists lend buffers of other lengths.
+abbrev pub writesOn : Call → List Call
+writesOn pulse = calls (WriteByPlacement 1 0 200 (adus 30) ∷ Erase 1 anyBlock ∷ []) ++ (pulse ∷ [])
 
 -- The 28 ADUs of that write in n2 are read, and once more with a short output (7); a Change Capacity that alters nothing, and
 -- one to the whole drive (14); Close of n1, and of a block that A does not hold (9); Super Block Information and the open list.
@@ -53,7 +56,7 @@ abbrev pub looks : ℕ → ℕ → ℕ → List Call
 looks n1 n2 foreign =
     let read = Read 1 (wordOf small (record { domain = 1; block = n2; offset = adus 100 })) (adus 28) 200 in
     call read
-    ∷ record { command = read; lent = shortOutput }
+    ∷ withShortOutput read
     ∷ call (ChangeCapacity 1 (planes 0) (planes 0))
     ∷ call (ChangeCapacity 1 (planes 1024) (planes 0))
     ∷ call (Close 1 n1)
@@ -80,7 +83,7 @@ ends = calls (Erase 1 anyBlock ∷ domain1 ∷ [])
 
 -- Domain 2 reserves a block, without which A could reserve the whole drive.
 abbrev pub quietHalf : List Call
-quietHalf = call (Create 2 (planes 1) (planes 0) 1 0) ∷ begins ++ writes 0 ++ writesOn
+quietHalf = call (Create 2 (planes 1) (planes 0) 1 0) ∷ begins ++ writes 0 ++ writesOn (call (Pulse 59))
 
 abbrev pub quiet : List Call
 quiet = quietHalf ++ looks 0 1 7 ++ renews 1 2 ++ ends
@@ -127,7 +130,7 @@ abbrev pub comesBack : List Call
 comesBack = calls (Delete 3 ∷ Create 3 (planes 128) (planes 0) 1 256 ∷ Erase 3 anyBlock ∷ [])
 
 abbrev pub busyHalf : List Call
-busyHalf = comesFirst ++ begins ++ givesWay ++ writes 5 ++ reachesOut ++ writesOn ++ fillsUp
+busyHalf = comesFirst ++ begins ++ givesWay ++ writes 5 ++ reachesOut ++ writesOn (lending (Pulse 59) 0 1 2) ++ fillsUp
 
 abbrev pub busy : List Call
 busy = busyHalf ++ looks 5 7 2 ++ renews 7 1 ++ comesBack ++ ends
@@ -142,41 +145,50 @@ abbrev pub sevens : Drive
 sevens = begun small (replicate 1024 7)
 
 -- A's inputs, the same in both lists.
-abbrev pub input : Request → Input
-input request = record { request = request; lent = enough }
+abbrev pub input : Request → Naming → Input
+input request names = record { request = request; names = names; lent = some (call (Delete 1) .lent) }
 
-abbrev pub eraseAny : Request
-eraseAny = Request.erase (Name.noBlock 4294967295)
+abbrev pub named : Name → Naming
+named name = Naming.namesBlock name
 
-abbrev pub readSecond : Request
-readSecond = Request.read (Name.held 2) 1 (adus 100) (adus 28) 200
+abbrev pub unnamed : Naming
+unnamed = Naming.namesNothing
+
+abbrev pub any : Naming
+any = named (Name.noBlock 4294967295)
+
+abbrev pub second : Naming
+second = Naming.namesAddress (record { domain = 1; block = Name.held 2; offset = adus 100 })
+
+abbrev pub pulsing : ℕ → Input
+pulsing seconds = record { request = Request.pulse seconds; names = unnamed; lent = none }
 
 abbrev pub sameInputs : List Input
 sameInputs =
-    input Request.delete
-    ∷ input (Request.create (planes 300) (planes 200) 2 1)
-    ∷ input eraseAny
-    ∷ record { request = eraseAny; lent = shortStore }
-    ∷ input (Request.writeByBlock (Name.held 1) 5 (adus 10))
-    ∷ input (Request.writeByPlacement 0 100 (adus 100))
-    ∷ input (Request.writeByPlacement 0 200 (adus 30))
-    ∷ input eraseAny
-    ∷ input (Request.pulse 59)
-    ∷ input readSecond
-    ∷ record { request = readSecond; lent = shortOutput }
-    ∷ input (Request.changeCapacity (planes 0) (planes 0))
-    ∷ input (Request.changeCapacity (planes 1024) (planes 0))
-    ∷ input (Request.close (Name.held 1))
-    ∷ input (Request.close Name.other)
-    ∷ input (Request.page (Name.held 1))
-    ∷ input (Request.list listed.Open)
-    ∷ input (Request.pulse 1)
-    ∷ input (Request.list listed.Closed)
-    ∷ input (Request.erase (Name.held 2))
-    ∷ input (Request.writeByBlock (Name.held 4) (3 * 2 ^ 40) (adus 128))
-    ∷ input (Request.free (Name.held 3))
-    ∷ input eraseAny
-    ∷ input (Request.create (planes 300) (planes 200) 2 1)
+    input Request.delete unnamed
+    ∷ input (Request.create (planes 300) (planes 200) 2 1) unnamed
+    ∷ input Request.erase any
+    ∷ record { request = Request.erase; names = any; lent = some (withShortStore (Delete 1) .lent) }
+    ∷ input (Request.writeByBlock 5 (adus 10)) (named (Name.held 1))
+    ∷ input (Request.writeByPlacement 0 100 (adus 100)) unnamed
+    ∷ input (Request.writeByPlacement 0 200 (adus 30)) unnamed
+    ∷ input Request.erase any
+    ∷ pulsing 59
+    ∷ input (Request.read (adus 28) 200) second
+    ∷ record { request = Request.read (adus 28) 200; names = second; lent = some (withShortOutput (Delete 1) .lent) }
+    ∷ input (Request.changeCapacity (planes 0) (planes 0)) unnamed
+    ∷ input (Request.changeCapacity (planes 1024) (planes 0)) unnamed
+    ∷ input Request.close (named (Name.held 1))
+    ∷ input Request.close (named Name.other)
+    ∷ input Request.page (named (Name.held 1))
+    ∷ input (Request.list listed.Open) unnamed
+    ∷ pulsing 1
+    ∷ input (Request.list listed.Closed) unnamed
+    ∷ input Request.erase (named (Name.held 2))
+    ∷ input (Request.writeByBlock (3 * 2 ^ 40) (adus 128)) (named (Name.held 4))
+    ∷ input Request.free (named (Name.held 3))
+    ∷ input Request.erase any
+    ∷ input (Request.create (planes 300) (planes 200) 2 1) unnamed
     ∷ []
 
 -- The number that each call gets.

@@ -6,6 +6,7 @@ pub mod Domains
 pub mod Blocks
 pub mod LogPages
 pub mod Soundness
+pub mod Calls
 pub mod Questions
 pub mod Effects
 pub mod Runs
@@ -16,3 +17,4 @@ pub mod ProvedTable
 pub mod WrongTurns
 pub mod Claims
 pub mod Example
+pub mod Told

@@ -4,7 +4,6 @@ use mathlib.Core.Bool.{_&&_, cond}
 use mathlib.Core.List.{List, [], _∷_, _++_}
 use mathlib.Core.Path.{_≡_}
 use lib.Dec.{eqb, ltb}
-use lib.ListN.{replicate}
 use Rattle.geometry.specs.Bytes.{littleEndian}
 use Rattle.geometry.specs.declared.shape.Config.{Config}
 use Rattle.model.specs.declared.block.Block.{Block}
@@ -16,7 +15,7 @@ use Rattle.model.specs.declared.command.Listed.{Listed}
 use Rattle.model.specs.declared.command.Listed.the-variants as listed
 use Rattle.model.specs.declared.table.Table.{Table}
 use Rattle.rules.specs.Counting.{numbersTo}
-use Rattle.rules.specs.Drive.{blockAt, capacity, closedCount, closedOf, isClosed, isOpen, openCount, openOf, size}
+use Rattle.rules.specs.Drive.{blockAdus, blockAt, closedCount, closedOf, isClosed, isOpen, openCount, openOf, size}
 
 -- Open by erase 08h, its closed form 0Ah; by placement 04h and 06h. (Free is 01h in 000, but no Free block has a page.)
 abbrev pub stateByte : State → ℕ
@@ -37,49 +36,73 @@ placementField (Open way) = placementOf way
 placementField (Closed way) = placementOf way
 
 -- P/E index is count × 200 / N rounded down, at most 255.
-abbrev pub wearIndex : Config → ℕ → ℕ
-wearIndex c erases = min (erases * 200 / c .rated) 255
+abbrev pub wearIndex : ℕ → ℕ → ℕ
+wearIndex rated erases = min (erases * 200 / rated) 255
 
 -- Integrity is 1 if Closed, else 0.
 abbrev pub integrity : Block → ℕ
 integrity b = cond (isClosed b) 1 0
 
--- Super Block Information of block n, 256 bytes. A field's width comes before its value; the comment says where it stands.
-unfoldable pub page : Table → ℕ → List ℕ
-page t n =
-    let b = blockAt t n in
-    -- 0: virtual device
-    littleEndian 2 1
-    -- 2
-    ++ littleEndian 1 0
-    -- 3: state
-    ++ littleEndian 1 (stateByte (b .state))
-    -- 4: block number
-    ++ littleEndian 4 n
-    -- 8: placement
-    ++ littleEndian 2 (placementField (b .state))
-    -- 10: domain
-    ++ littleEndian 2 (b .holder)
-    -- 12: P/E index
-    ++ littleEndian 1 (wearIndex (t .config) (b .erases))
-    -- 13: integrity
-    ++ littleEndian 1 (integrity b)
-    -- 14: time left
-    ++ littleEndian 2 0
-    -- 16: C
-    ++ littleEndian 4 (capacity t n .0)
-    -- 20: written, if open
-    ++ littleEndian 4 (cond (isOpen b) (b .written .0) 0)
-    -- 24: serial
-    ++ littleEndian 4 (b .serial)
-    -- the rest
-    ++ replicate 228 0
+-- ---- Super Block Information
+
+-- A field of a log page: where it stands, how many bytes it has, and its value.
+pub record Field : Type 0 where
+  pub place : ℕ
+  pub width : ℕ
+  pub value : ℕ
+
+abbrev pub field : ℕ → ℕ → ℕ → Field
+field place width value = record { place = place; width = width; value = value }
+
+-- The fields of block n with the record b, each by its place, its width and its value ("Page writes ..").
+abbrev pub pageFields : Config → ℕ → Block → List Field
+pageFields c n b =
+    -- virtual device 1
+    field 0 2 1
+    -- 0
+    ∷ field 2 1 0
+    -- state
+    ∷ field 3 1 (stateByte (b .state))
+    -- block number
+    ∷ field 4 4 n
+    -- placement, else FFFFh
+    ∷ field 8 2 (placementField (b .state))
+    -- domain
+    ∷ field 10 2 (b .holder)
+    -- P/E index
+    ∷ field 12 1 (wearIndex (c .rated) (b .erases))
+    -- integrity
+    ∷ field 13 1 (integrity b)
+    -- time left 0
+    ∷ field 14 2 0
+    -- C
+    ∷ field 16 4 (blockAdus c n .0)
+    -- written if open, else 0
+    ∷ field 20 4 (cond (isOpen b) (b .written .0) 0)
+    -- serial
+    ∷ field 24 4 (b .serial)
+    -- the rest 0
+    ∷ field 28 228 0
+    ∷ []
+
+-- The bytes of fields that follow one another.
+unfoldable pub bytesOf : List Field → List ℕ
+bytesOf [] = []
+bytesOf (f ∷ fs) = littleEndian (f .width) (f .value) ++ bytesOf fs
+
+-- The page of block n with the record b, 256 bytes.
+unfoldable pub page : Config → ℕ → Block → List ℕ
+page c n b = bytesOf (pageFields c n b)
+
+-- ---- Lists
 
 -- An 8-byte descriptor: block number, index, one byte, two zero bytes.
-abbrev pub descriptor : Table → (Block → ℕ) → ℕ → List ℕ
-descriptor t mark n =
-    let b = blockAt t n in
-    littleEndian 4 n ++ littleEndian 1 (wearIndex (t .config) (b .erases)) ++ littleEndian 1 (mark b) ++ littleEndian 2 0
+abbrev pub descriptorOf : ℕ → ℕ → ℕ → List ℕ
+descriptorOf n index byte = littleEndian 4 n ++ littleEndian 1 index ++ littleEndian 1 byte ++ littleEndian 2 0
+
+-- That of block n with the record b.
+abbrev pub descriptor : Config → (Block → ℕ) → ℕ → Block → List ℕ
+descriptor c mark n b = descriptorOf n (wearIndex (c .rated) (b .erases)) (mark b)
 
 -- The end mark: FFFFFFFFh with zeros.
 abbrev pub endMark : List ℕ
@@ -87,7 +110,7 @@ endMark = littleEndian 4 4294967295 ++ littleEndian 4 0
 
 unfoldable pub listOf : Table → (Block → ℕ) → List ℕ → List ℕ
 listOf t mark [] = endMark
-listOf t mark (n ∷ ns) = descriptor t mark n ++ listOf t mark ns
+listOf t mark (n ∷ ns) = descriptor (t .config) mark n (blockAt t n) ++ listOf t mark ns
 
 -- The domain's Closed blocks in ascending number with integrity in the one byte.
 unfoldable pub closedList : Table → ℕ → List ℕ

@@ -1,5 +1,5 @@
--- Demand 3, about two whole lists of calls: what is asked of a domain A, and what it is then promised. The claim itself is the last
--- of proofs/Claims.antt.
+-- Demand 3, about two whole lists of calls: what is asked of a domain A, and what it is then promised. Of the rules it is claimed
+-- by the last lines of proofs/Claims.antt, of the program by `Isolation` of the crate `isolation`.
 use Prim.Native.Nat.{ℕ}
 use mathlib.Core.Bool.{Bool, true, false, not, _&&_}
 use mathlib.Core.List.{List, [], _∷_, map}
@@ -7,21 +7,20 @@ use mathlib.Core.Path.{_≡_}
 use lib.Dec.{eqb}
 use Rattle.geometry.specs.Address.{isBlock}
 use Rattle.model.specs.declared.command.Command.{Command}
-use Rattle.model.specs.declared.command.Command.the-variants.{ChangeCapacity, Close, Create, Delete, Erase, Free, List as Listing, Page, Pulse, Read}
-use Rattle.model.specs.declared.command.Command.the-variants.{WriteByBlock, WriteByPlacement}
+use Rattle.rules.specs.Calls.{Call, Named, blockInAddress, heldBlock, heldOrFree, ownDomain, profile, unnamed}
 use Rattle.rules.specs.Counting.{implies}
 use Rattle.rules.specs.Drive.{Drive, blockAt, domainAt, heldBy}
-use Rattle.rules.specs.Effects.{verdict}
+use Rattle.rules.specs.Effects.{step, verdict}
 use Rattle.rules.specs.Observation.{Input, Observation, Replies, Reply, SameHoldings, concerns, inputOf, observed}
 use Rattle.rules.specs.Questions.{exists}
-use Rattle.rules.specs.Runs.{Call, ownDomain, run, step}
+use Rattle.rules.specs.Runs.{run}
 
--- ---- A fully reserved domain (01: shielded)
+-- ---- A fully reserved domain
 
 -- A's first Create is accepted, and every later one then gets 5. It is enough that none is refused for coverage.
 abbrev pub notUncovered : ℕ → Drive → Call → Bool
 notUncovered a v k =
-    implies (eqb (ownDomain (k .command)) a && not (exists (v .table) a)) (not (eqb (verdict v (k .lent) (k .command)) 14))
+    implies (eqb (ownDomain (k .command)) a && not (exists (v .table) a)) (not (eqb (verdict v k) 14))
 
 -- Guarantee and quota are equal in whole blocks ..
 abbrev pub reservesAll : ℕ → Drive → Bool
@@ -36,24 +35,19 @@ staysReserved a before after =
 
 -- A names only blocks that it holds. That has to be asked of Erase alone, since a block that A does not hold may be Free or not; any
 -- other command is refused alike whichever such block it names.
-abbrev pub erasesOwn : ℕ → Drive → Command → Bool
-erasesOwn a v (Create d guarantee quota placements limit) = true
-erasesOwn a v (ChangeCapacity d guarantee quota) = true
-erasesOwn a v (Delete d) = true
-erasesOwn a v (Erase d n) = implies (eqb d a && isBlock (v .table .config) n) (heldBy a (blockAt (v .table) n))
-erasesOwn a v (Close d n) = true
-erasesOwn a v (Free d n) = true
-erasesOwn a v (WriteByPlacement d p start count) = true
-erasesOwn a v (WriteByBlock d n start count) = true
-erasesOwn a v (Read d address count expected) = true
-erasesOwn a v (Page d n) = true
-erasesOwn a v (Listing d which) = true
-erasesOwn a v (Pulse seconds) = true
+abbrev pub takesOwn : ℕ → Drive → Named → Bool
+takesOwn a v unnamed = true
+takesOwn a v (heldBlock n) = true
+takesOwn a v (heldOrFree n) = implies (isBlock (v .table .config) n) (heldBy a (blockAt (v .table) n))
+takesOwn a v (blockInAddress word) = true
+
+abbrev pub namesOwn : ℕ → Drive → Command → Bool
+namesOwn a v c = implies (eqb (ownDomain c) a) (takesOwn a v (profile c .names))
 
 -- All that is asked of a call, and of a list of calls. Of a neighbour's call it asks nothing: `neighbours-unasked` in proofs/Claims.antt.
 abbrev pub isAllowed : ℕ → Drive → Call → Bool
 isAllowed a v k =
-    notUncovered a v k && erasesOwn a v (k .command) && reservesAll a (step k v) && staysReserved a v (step k v)
+    notUncovered a v k && namesOwn a v (k .command) && reservesAll a (step k v) && staysReserved a v (step k v)
 
 unfoldable pub fullyReserved : ℕ → List Call → Drive → Bool
 fullyReserved a [] v = true
@@ -87,7 +81,7 @@ inputs a (k ∷ ks) v = consIf (concerns a (k .command)) (inputOf a v k) (inputs
 unfoldable pub observations : ℕ → List Exchange → Drive → List Observation
 observations a [] v = []
 observations a (x ∷ xs) v =
-    consIf (concerns a (x .call .command)) (observed v (x .call) (x .reply)) (observations a xs (step (x .call) v))
+    consIf (concerns a (x .call .command)) (observed a v (x .call) (x .reply)) (observations a xs (step (x .call) v))
 
 -- In two lists, from two drives, A has observed the same and holds the same.
 pub record Indistinguishable (a : ℕ) (xs ys : List Exchange) (v w : Drive) : Type 0 where

@@ -2,14 +2,14 @@
 -- it: a block that the domain holds goes by its serial.
 use Prim.Native.Nat.{ℕ, zero, suc, _+_, _*_, _/_, _<_}
 use mathlib.Core.Bool.{Bool, true, false, _&&_, _||_, cond}
-use mathlib.Core.List.{List, [], _∷_, _++_, map}
+use mathlib.Core.List.{List, [], _∷_, map}
+use mathlib.Core.Option.{Option, none, some}
 use mathlib.Core.Path.{_≡_}
 use lib.Dec.{eqb}
 use lib.ListN.{drop, getD, length, take}
 use Rattle.geometry.specs.Address.{fieldsOf, isBlock}
 use Rattle.geometry.specs.Questions.{Outcome}
 use Rattle.geometry.specs.Shape.{stretchStart}
-use Rattle.geometry.specs.declared.address.FlashAddress.{FlashAddress}
 use Rattle.geometry.specs.declared.shape.Adus.{Adus}
 use Rattle.geometry.specs.declared.shape.Planes.{Planes}
 use Rattle.model.specs.declared.block.State.{State}
@@ -17,10 +17,11 @@ use Rattle.model.specs.declared.command.Command.{Command}
 use Rattle.model.specs.declared.command.Command.the-variants.{ChangeCapacity, Close, Create, Delete, Erase, Free, List as Listing, Page, Pulse, Read}
 use Rattle.model.specs.declared.command.Command.the-variants.{WriteByBlock, WriteByPlacement}
 use Rattle.model.specs.declared.command.Listed.{Listed}
+use Rattle.rules.specs.Calls.{BytesDue, Call, Lengths, Named, Values, WordsDue, isPulse, ownDomain, profile}
+use Rattle.rules.specs.Calls.{addressWords, blockInAddress, blocksAfter, blocksBefore, counts, heldBlock, heldOrFree, listBytes}
+use Rattle.rules.specs.Calls.{noBytes, noWords, pageBytes, unnamed, userWords}
 use Rattle.rules.specs.Drive.{Drive, blockAt, capacity, heldBy, size}
-use Rattle.rules.specs.Effects.{BytesFilled, answerTo, wordsFilled}
-use Rattle.rules.specs.Questions.{Lengths}
-use Rattle.rules.specs.Runs.{Call, ownDomain, step}
+use Rattle.rules.specs.Effects.{BytesFilled, answerTo, step, wordsFilled}
 
 -- ---- What A holds
 
@@ -58,24 +59,10 @@ pub record SameHoldings (a : ℕ) (v w : Drive) : Type 0 where
 -- ---- What A sends
 
 -- Commands whose own domain is A are A's; all others but Pulse are the neighbours'.
-abbrev pub isPulse : Command → Bool
-isPulse (Create d guarantee quota placements limit) = false
-isPulse (ChangeCapacity d guarantee quota) = false
-isPulse (Delete d) = false
-isPulse (Erase d n) = false
-isPulse (Close d n) = false
-isPulse (Free d n) = false
-isPulse (WriteByPlacement d p start count) = false
-isPulse (WriteByBlock d n start count) = false
-isPulse (Read d address count expected) = false
-isPulse (Page d n) = false
-isPulse (Listing d which) = false
-isPulse (Pulse seconds) = true
-
 abbrev pub concerns : ℕ → Command → Bool
 concerns a c = isPulse c || eqb (ownDomain c) a
 
--- A block that a command names: one that A holds is given by its serial; of any other block of the drive no more is said than that it
+-- A block that is named: one that A holds is given by its serial; of any other block of the drive no more is said than that it
 -- is one; and a number that is no block's (FFFFFFFFh is one) stays a number.
 pub data Name : Type 0 where
   held : (serial : ℕ) → Name
@@ -88,44 +75,71 @@ nameOf a v n =
     (cond (heldBy a (blockAt (v .table) n)) (held (serialAt v n)) other)
     (noBlock n)
 
--- A command by kind and arguments, its own domain left out.
+-- A flash address, its block by name.
+pub record Address : Type 0 where
+  pub domain : ℕ
+  pub block : Name
+  pub offset : Adus
+
+abbrev pub addressOf : ℕ → Drive → ℕ → Address
+addressOf a v word =
+    let f = fieldsOf (v .table .config) word in
+    record { domain = f .domain; block = nameOf a v (f .block); offset = f .offset }
+
+-- The block that a command names, as A knows it.
+pub data Naming : Type 0 where
+  namesNothing : Naming
+  namesBlock : Name → Naming
+  namesAddress : Address → Naming
+
+abbrev pub namingOf : ℕ → Drive → Named → Naming
+namingOf a v unnamed = namesNothing
+namingOf a v (heldBlock n) = namesBlock (nameOf a v n)
+namingOf a v (heldOrFree n) = namesBlock (nameOf a v n)
+namingOf a v (blockInAddress word) = namesAddress (addressOf a v word)
+
+-- A command by kind and arguments; its own domain and the block that it names are left out.
 pub data Request : Type 0 where
   create : (guarantee quota : Planes) (placements limit : ℕ) → Request
   changeCapacity : (guarantee quota : Planes) → Request
   delete : Request
-  erase : Name → Request
-  close : Name → Request
-  free : Name → Request
+  erase : Request
+  close : Request
+  free : Request
   writeByPlacement : (placement start : ℕ) (count : Adus) → Request
-  writeByBlock : Name → (start : ℕ) (count : Adus) → Request
-  read : Name → (domain : ℕ) (offset count : Adus) (expected : ℕ) → Request
-  page : Name → Request
+  writeByBlock : (start : ℕ) (count : Adus) → Request
+  read : (count : Adus) (expected : ℕ) → Request
+  page : Request
   list : Listed → Request
   pulse : (seconds : ℕ) → Request
 
-unfoldable pub requestOf : ℕ → Drive → Command → Request
-requestOf a v (Create d guarantee quota placements limit) = create guarantee quota placements limit
-requestOf a v (ChangeCapacity d guarantee quota) = changeCapacity guarantee quota
-requestOf a v (Delete d) = delete
-requestOf a v (Erase d n) = erase (nameOf a v n)
-requestOf a v (Close d n) = close (nameOf a v n)
-requestOf a v (Free d n) = free (nameOf a v n)
-requestOf a v (WriteByPlacement d p start count) = writeByPlacement p start count
-requestOf a v (WriteByBlock d n start count) = writeByBlock (nameOf a v n) start count
-requestOf a v (Read d address count expected) =
-    let f = fieldsOf (v .table .config) address in
-    read (nameOf a v (f .block)) (f .domain) (f .offset) count expected
-requestOf a v (Page d n) = page (nameOf a v n)
-requestOf a v (Listing d which) = list which
-requestOf a v (Pulse seconds) = pulse seconds
+unfoldable pub requestOf : Command → Request
+requestOf (Create d guarantee quota placements limit) = create guarantee quota placements limit
+requestOf (ChangeCapacity d guarantee quota) = changeCapacity guarantee quota
+requestOf (Delete d) = delete
+requestOf (Erase d n) = erase
+requestOf (Close d n) = close
+requestOf (Free d n) = free
+requestOf (WriteByPlacement d p start count) = writeByPlacement p start count
+requestOf (WriteByBlock d n start count) = writeByBlock start count
+requestOf (Read d address count expected) = read count expected
+requestOf (Page d n) = page
+requestOf (Listing d which) = list which
+requestOf (Pulse seconds) = pulse seconds
 
--- What A puts into the machine with a call (01: a place): kind, arguments and lent lengths.
+-- What A puts into the machine with a call (01: a place): kind, arguments, the block that is named, and the lent lengths, which are
+-- none of A's where the call is a pulse.
 pub record Input : Type 0 where
   pub request : Request
-  pub lent : Lengths
+  pub names : Naming
+  pub lent : Option Lengths
 
 abbrev pub inputOf : ℕ → Drive → Call → Input
-inputOf a v k = record { request = requestOf a v (k .command); lent = k .lent }
+inputOf a v k = record {
+  request = requestOf (k .command);
+  names = namingOf a v (profile (k .command) .names);
+  lent = cond (isPulse (k .command)) none (some (k .lent));
+}
 
 -- ---- What A is told
 
@@ -137,129 +151,119 @@ pub record Reply : Type 0 where
 
 -- What the rules give as a reply; it is one and no other, but for the order of an open list.
 pub record Replies (v : Drive) (k : Call) (r : Reply) : Type 0 where
-  pub answers : r .answer ≡ answerTo v (k .lent) (k .command)
-  pub fills-words : r .words ≡ wordsFilled v (k .lent) (k .command)
-  pub fills-bytes : BytesFilled v (k .lent) (k .command) (r .bytes)
+  pub answers : r .answer ≡ answerTo v k
+  pub fills-words : r .words ≡ wordsFilled v k
+  pub fills-bytes : BytesFilled v k (r .bytes)
 
--- How a reply is read, by the kind of command: words and bytes as they are; the same for Free, whose block number is read before it; words
--- as flash addresses (both writes); bytes as Super Block Information (Page); bytes as descriptors (List).
-pub data Reading : Type 0 where
-  plainly : Reading
-  freed : Reading
-  addresses : Reading
-  information : Reading
-  descriptors : Reading
+-- The values of an answer: counts as they are, block numbers by name. For Free a block is named as A held it before the call, else
+-- as A holds it after the call.
+pub data ReadValues : Type 0 where
+  numbers : List ℕ → ReadValues
+  blocks : List Name → ReadValues
 
-abbrev pub readingOf : Command → Reading
-readingOf (Create d guarantee quota placements limit) = plainly
-readingOf (ChangeCapacity d guarantee quota) = plainly
-readingOf (Delete d) = plainly
-readingOf (Erase d n) = plainly
-readingOf (Close d n) = plainly
-readingOf (Free d n) = freed
-readingOf (WriteByPlacement d p start count) = addresses
-readingOf (WriteByBlock d n start count) = addresses
-readingOf (Read d address count expected) = plainly
-readingOf (Page d n) = information
-readingOf (Listing d which) = descriptors
-readingOf (Pulse seconds) = plainly
+abbrev pub readValues : Values → ℕ → Drive → Drive → List ℕ → ReadValues
+readValues counts a before after values = numbers values
+readValues blocksAfter a before after values = blocks (map (nameOf a after) values)
+readValues blocksBefore a before after values = blocks (map (nameOf a before) values)
 
--- The drive in which a block number is read as its serial: for Free the one before, else the one after.
-abbrev pub readIn : Reading → Drive → Drive → Drive
-readIn plainly before after = after
-readIn freed before after = before
-readIn addresses before after = after
-readIn information before after = after
-readIn descriptors before after = after
+-- The words: user addresses as they are, flash addresses with their blocks by name.
+pub data ReadWords : Type 0 where
+  plain : List ℕ → ReadWords
+  addresses : List Address → ReadWords
 
--- A flash address, its block by serial.
-abbrev pub readAddress : Drive → ℕ → FlashAddress
-readAddress u word =
-    let f = fieldsOf (u .table .config) word in
-    record { domain = f .domain; block = serialAt u (f .block); offset = f .offset }
-
-pub data Words : Type 0 where
-  plain : List ℕ → Words
-  flash : List FlashAddress → Words
-
-abbrev pub readWords : Reading → Drive → List ℕ → Words
-readWords plainly u words = plain words
-readWords freed u words = plain words
-readWords addresses u words = flash (map (readAddress u) words)
-readWords information u words = plain words
-readWords descriptors u words = plain words
+abbrev pub readWords : WordsDue → ℕ → Drive → List ℕ → ReadWords
+readWords noWords a u words = ReadWords.plain words
+readWords (userWords count) a u words = ReadWords.plain words
+readWords (addressWords count) a u words = addresses (map (addressOf a u) words)
 
 -- The number in little-endian bytes.
 unfoldable pub numberIn : List ℕ → ℕ
 numberIn [] = 0
 numberIn (b ∷ bs) = b + 256 * numberIn bs
 
--- Super Block Information: the block number in bytes 4 to 7 is read as its serial, the P/E index in byte 12 is left out.
-unfoldable pub readPage : Drive → List ℕ → List ℕ
-readPage u [] = []
-readPage u (b ∷ bs) =
-    let bytes = b ∷ bs in
-    take 4 bytes ++ (serialAt u (numberIn (take 4 (drop 4 bytes))) ∷ take 4 (drop 8 bytes)) ++ drop 13 bytes
-
--- A descriptor of a list: the block number in bytes 0 to 3 is read as its serial, the P/E index in byte 4 is left out. The end mark
--- names no block and reads as serial 0.
+-- A descriptor of a list: the block in bytes 0 to 3 by name. The P/E index in byte 4 is left out (it reads 0), but not where no
+-- block is named: of the end mark every byte is kept.
 pub record Descriptor : Type 0 where
-  pub serial : ℕ
+  pub block : Name
+  pub index : ℕ
   pub mark : ℕ
   pub byte6 : ℕ
   pub byte7 : ℕ
 
-abbrev pub descriptorIn : Drive → List ℕ → Descriptor
-descriptorIn u bytes = record {
-  serial = serialAt u (numberIn (take 4 bytes));
-  mark = getD bytes 5 0;
-  byte6 = getD bytes 6 0;
-  byte7 = getD bytes 7 0;
-}
+abbrev pub descriptorIn : ℕ → Drive → List ℕ → Descriptor
+descriptorIn a u bytes =
+    let number = numberIn (take 4 bytes) in
+    record {
+      block = nameOf a u number;
+      index = cond (isBlock (u .table .config) number) 0 (getD bytes 4 0);
+      mark = getD bytes 5 0;
+      byte6 = getD bytes 6 0;
+      byte7 = getD bytes 7 0;
+    }
 
 -- So many descriptors, of 8 bytes each.
-unfoldable pub readDescriptors : Drive → ℕ → List ℕ → List Descriptor
-readDescriptors u zero bytes = []
-readDescriptors u (suc k) bytes = descriptorIn u (take 8 bytes) ∷ readDescriptors u k (drop 8 bytes)
+unfoldable pub readDescriptors : ℕ → Drive → ℕ → List ℕ → List Descriptor
+readDescriptors a u zero bytes = []
+readDescriptors a u (suc k) bytes = descriptorIn a u (take 8 bytes) ∷ readDescriptors a u k (drop 8 bytes)
 
-abbrev pub readList : Drive → List ℕ → List Descriptor
-readList u bytes = readDescriptors u (length bytes / 8) bytes
+abbrev pub readList : ℕ → Drive → List ℕ → List Descriptor
+readList a u bytes = readDescriptors a u (length bytes / 8) bytes
 
 -- A List is read as its set of descriptors: by how often each stands there.
+abbrev pub isName : Name → Name → Bool
+isName (held s) (held r) = eqb s r
+isName (held s) other = false
+isName (held s) (noBlock m) = false
+isName other (held r) = false
+isName other other = true
+isName other (noBlock m) = false
+isName (noBlock n) (held r) = false
+isName (noBlock n) other = false
+isName (noBlock n) (noBlock m) = eqb n m
+
 abbrev pub isDescriptor : Descriptor → Descriptor → Bool
 isDescriptor x y =
-    eqb (x .serial) (y .serial) && eqb (x .mark) (y .mark) && eqb (x .byte6) (y .byte6) && eqb (x .byte7) (y .byte7)
+    isName (x .block) (y .block)
+    && eqb (x .index) (y .index)
+    && eqb (x .mark) (y .mark)
+    && eqb (x .byte6) (y .byte6)
+    && eqb (x .byte7) (y .byte7)
 
 unfoldable pub timesListed : List Descriptor → Descriptor → ℕ
 timesListed [] x = 0
 timesListed (y ∷ ys) x = cond (isDescriptor x y) 1 0 + timesListed ys x
 
-pub data Bytes : Type 0 where
-  plain : List ℕ → Bytes
-  page : List ℕ → Bytes
-  set : (Descriptor → ℕ) → Bytes
+-- The bytes. Of Super Block Information the block in bytes 4 to 7 by name, and the P/E index in byte 12 left out.
+pub data ReadBytes : Type 0 where
+  plain : List ℕ → ReadBytes
+  page : (front : List ℕ) → Name → (middle rest : List ℕ) → ReadBytes
+  list : (Descriptor → ℕ) → ReadBytes
 
-abbrev pub readBytes : Reading → Drive → List ℕ → Bytes
-readBytes plainly u bytes = Bytes.plain bytes
-readBytes freed u bytes = Bytes.plain bytes
-readBytes addresses u bytes = Bytes.plain bytes
-readBytes information u bytes = Bytes.page (readPage u bytes)
-readBytes descriptors u bytes = Bytes.set (timesListed (readList u bytes))
+unfoldable pub readPage : ℕ → Drive → List ℕ → ReadBytes
+readPage a u [] = ReadBytes.plain []
+readPage a u (b ∷ bs) =
+    let bytes = b ∷ bs in
+    ReadBytes.page (take 4 bytes) (nameOf a u (numberIn (take 4 (drop 4 bytes)))) (take 4 (drop 8 bytes)) (drop 13 bytes)
 
--- What A observes of a reply: the refusal's number or 0, block numbers that are answered as serials, and what is filled.
+abbrev pub readBytes : BytesDue → ℕ → Drive → List ℕ → ReadBytes
+readBytes noBytes a u bytes = ReadBytes.plain bytes
+readBytes (pageBytes n) a u bytes = readPage a u bytes
+readBytes (listBytes d which) a u bytes = ReadBytes.list (timesListed (readList a u bytes))
+
+-- What A observes of a reply: the refusal's number or 0, the values of the answer, and what is filled.
 pub record Observation : Type 0 where
   pub number : ℕ
-  pub serials : List ℕ
-  pub words : Words
-  pub bytes : Bytes
+  pub values : ReadValues
+  pub words : ReadWords
+  pub bytes : ReadBytes
 
-unfoldable pub observed : Drive → Call → Reply → Observation
-observed v k r =
-    let reading = readingOf (k .command) in
-    let u = readIn reading v (step k v) in
+unfoldable pub observed : ℕ → Drive → Call → Reply → Observation
+observed a v k r =
+    let p = profile (k .command) in
+    let u = step k v in
     record {
       number = r .answer .number;
-      serials = map (serialAt u) (r .answer .values);
-      words = readWords reading u (r .words);
-      bytes = readBytes reading u (r .bytes);
+      values = readValues (p .values) a v u (r .answer .values);
+      words = readWords (p .words) a u (r .words);
+      bytes = readBytes (p .bytes) a u (r .bytes);
     }

@@ -12,12 +12,12 @@ use Rattle.geometry.specs.declared.shape.Config.{Config}
 use Rattle.model.specs.declared.command.Command.{Command}
 use Rattle.model.specs.declared.command.Command.the-variants.{Create, Erase, Pulse, WriteByPlacement}
 use Rattle.rules.specs.Blocks.{anyBlock}
+use Rattle.rules.specs.Calls.{Call, lending}
 use Rattle.rules.specs.Counting.{numbersTo}
 use Rattle.rules.specs.Drive.{Drive, blockAt, closedOf, domainAt, heldBy, openOf, size}
 use Rattle.rules.specs.Effects.{wordsFilled}
 use Rattle.rules.specs.LogPages.{wearIndex}
-use Rattle.rules.specs.Questions.{Lengths}
-use Rattle.rules.specs.Runs.{Call, answers, begun, reference}
+use Rattle.rules.specs.Runs.{answers, begun, reference}
 
 infix 4 _is_ _are_
 -- What the rules give, and what 01 says.
@@ -38,11 +38,8 @@ Row = List Fact
 abbrev pub small : Config
 small = configOf 128 1 1 1 8 1000 60
 
-abbrev pub enough : Lengths
-enough = record { store = 1024; words = 256; bytes = 256 }
-
 abbrev pub call : Command → Call
-call c = record { command = c; lent = enough }
+call c = lending c 1024 256 256
 
 abbrev pub calls : List Command → List Call
 calls cs = map call cs
@@ -58,7 +55,7 @@ abbrev pub numbersGot : List Command → List ℕ
 numbersGot cs = map (λ (o : Outcome). o .number) (answers (calls cs) (begun small freshStore))
 
 abbrev pub wordsOf : List Command → Command → List ℕ
-wordsOf cs c = wordsFilled (after cs) enough c
+wordsOf cs c = wordsFilled (after cs) (call c)
 
 -- The blocks of domain 1, and those of them that are open and Closed.
 abbrev pub heldIn : Drive → List ℕ
@@ -76,7 +73,8 @@ leftOf v n = blockAt (v .table) n .left
 abbrev pub writtenOf : Drive → ℕ → ℕ
 writtenOf v n = blockAt (v .table) n .written .0
 
--- Domain 1 has guarantee 300, quota 200, 2 placement IDs, open limit 1. P4 to P9 start with it alone.
+-- Domain 1 has guarantee 300, quota 200, 2 placement IDs, open limit 1. P4 to P7 each start with it alone, and so do P8
+-- and P9 here.
 abbrev pub domain1 : Command
 domain1 = Create 1 (planes 300) (planes 200) 2 1
 
@@ -179,7 +177,11 @@ p9 =
 
 -- P10. P/E 7 gives index 1; 1,277 and 1,300 give 255.
 abbrev pub p10 : Row
-p10 = (wearIndex small 7 is 1) ∷ (wearIndex small 1277 is 255) ∷ (wearIndex small 1300 is 255) ∷ []
+p10 =
+    (wearIndex (small .rated) 7 is 1)
+    ∷ (wearIndex (small .rated) 1277 is 255)
+    ∷ (wearIndex (small .rated) 1300 is 255)
+    ∷ []
 
 -- P11. G 128, S 8, D 2, L 2, K 4: page 3, die 1, plane 0, ADU 2 is offset 58; domain 5, block 3: 000500000000183Ah.
 abbrev pub p11 : Row

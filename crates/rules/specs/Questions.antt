@@ -1,8 +1,8 @@
 -- Document 01, "The questions, in order": what each command is asked. Question 1 is put in Start; 2 is `sound`, 4 is
 -- `isDomainId`; 7, 10, 15 and 16 stand as they are in the lists of the commands that are asked them.
 use Prim.Native.Nat.{ℕ, _+_, _-_, _^_}
-use mathlib.Core.Bool.{Bool, true, not, _&&_, _||_, cond}
-use mathlib.Core.List.{List, [], _∷_}
+use mathlib.Core.Bool.{Bool, true, false, not, _&&_, _||_, cond}
+use mathlib.Core.List.{List, [], _∷_, _++_}
 use mathlib.Core.Option.{Option, none, some}
 use lib.Dec.{eqb, leb, ltb}
 use Rattle.geometry.specs.Address.{fieldsOf, isBlock, isDomainId, isOffset}
@@ -14,21 +14,16 @@ use Rattle.model.specs.declared.command.Command.the-variants.{ChangeCapacity, C
 use Rattle.model.specs.declared.command.Command.the-variants.{WriteByBlock, WriteByPlacement}
 use Rattle.model.specs.declared.table.Table.{Table}
 use Rattle.rules.specs.Blocks.{allOnes, anyBlock, lba, matches, newBlocks, stored, userAddress}
+use Rattle.rules.specs.Calls.{Call, Own, existing, missing, nobody, profile}
 use Rattle.rules.specs.Counting.{allTo, implies}
 use Rattle.rules.specs.Domains.{arePlaneCounts, changedDomain, coveredWith, createdDomain}
 use Rattle.rules.specs.Drive.{Drive, blockAt, capacity, domainAt, heldBy, heldCount, isClosed, isFree, isOpenByErase, openBlock, openCount}
 use Rattle.rules.specs.LogPages.{listLength}
 use Rattle.rules.specs.Soundness.{sound}
 
--- The lengths of what is lent: entries of the store, words and bytes.
-pub record Lengths : Type 0 where
-  pub store : ℕ
-  pub words : ℕ
-  pub bytes : ℕ
-
 -- 3. Has the store S × C entries?
-abbrev pub storeFits : Table → Lengths → Bool
-storeFits t lent = eqb (lent .store) (storeLength (t .config) .0)
+abbrev pub storeFits : Table → Call → Bool
+storeFits t k = eqb (k .lent .store) (storeLength (t .config) .0)
 
 -- 5. Does the domain exist?
 abbrev pub exists : Table → ℕ → Bool
@@ -81,49 +76,51 @@ withinQuota t d new = leb (heldCount t d + new) (domainAt t d .quota)
 abbrev pub coveredAfter : Table → ℕ → ℕ → Bool
 coveredAfter t d new = coveredWith t d (domainAt t d .reserved) (heldCount t d + new)
 
--- Close and Free are asked the same.
+-- ---- What each command is asked
+
+-- 3, of a command that uses the store.
+abbrev pub storeQuestions : Bool → Table → Call → List Question
+storeQuestions true t k = ask 3 (storeFits t k) ∷ []
+storeQuestions false t k = []
+
+-- 4 and 5. Is the domain ID 1 to 16? Does the domain exist (Create: not yet)?
+abbrev pub domainQuestions : Table → Own → List Question
+domainQuestions t (existing d) = ask 4 (isDomainId d) ∷ ask 5 (exists t d) ∷ []
+domainQuestions t (missing d) = ask 4 (isDomainId d) ∷ ask 5 (not (exists t d)) ∷ []
+domainQuestions t nobody = []
+
+-- What every command is asked first, in 01's order: 2; 3 where it uses the store; 4 and 5 where it names a domain.
+abbrev pub firstQuestions : Drive → Call → List Question
+firstQuestions v k =
+    let t = v .table in
+    let p = profile (k .command) in
+    ask 2 (sound t) ∷ storeQuestions (p .store) t k ++ domainQuestions t (p .own)
+
+-- Close and Free are then asked the same.
 abbrev pub heldBlockQuestions : Table → ℕ → ℕ → List Question
 heldBlockQuestions t d n =
-    ask 2 (sound t)
-    ∷ ask 4 (isDomainId d)
-    ∷ ask 5 (exists t d)
-    ∷ ask 6 (isBlock (t .config) n)
+    ask 6 (isBlock (t .config) n)
     ∷ ask 9 (isHeld t d n)
     ∷ []
 
--- Each command's questions, in 01's order.
-unfoldable pub questions : Drive → Lengths → Command → List Question
-questions v lent (Create d guarantee quota placements limit) =
+-- What each command is asked then, in 01's order: command c, of the call k.
+abbrev pub laterQuestions : Command → Drive → Call → List Question
+laterQuestions (Create d guarantee quota placements limit) v k =
     let t = v .table in
     let r = createdDomain (t .config) guarantee quota placements limit in
-    ask 2 (sound t)
-    ∷ ask 4 (isDomainId d)
-    ∷ ask 5 (not (exists t d))
-    ∷ ask 6 (arePlaneCounts (t .config) guarantee quota && between 1 16 placements && between 0 256 limit)
+    ask 6 (arePlaneCounts (t .config) guarantee quota && between 1 16 placements && between 0 256 limit)
     ∷ ask 14 (coveredWith t d (r .reserved) (heldCount t d))
     ∷ []
-questions v lent (ChangeCapacity d guarantee quota) =
+laterQuestions (ChangeCapacity d guarantee quota) v k =
     let t = v .table in
     let r = changedDomain t d guarantee quota in
-    ask 2 (sound t)
-    ∷ ask 4 (isDomainId d)
-    ∷ ask 5 (exists t d)
-    ∷ ask 6 (arePlaneCounts (t .config) guarantee quota)
+    ask 6 (arePlaneCounts (t .config) guarantee quota)
     ∷ ask 14 (coveredWith t d (r .reserved) (heldCount t d))
     ∷ []
-questions v lent (Delete d) =
+laterQuestions (Delete d) v k = []
+laterQuestions (Erase d n) v k =
     let t = v .table in
-    ask 2 (sound t)
-    ∷ ask 4 (isDomainId d)
-    ∷ ask 5 (exists t d)
-    ∷ []
-questions v lent (Erase d n) =
-    let t = v .table in
-    ask 2 (sound t)
-    ∷ ask 3 (storeFits t lent)
-    ∷ ask 4 (isDomainId d)
-    ∷ ask 5 (exists t d)
-    ∷ ask 6 (isErasable t n)
+    ask 6 (isErasable t n)
     ∷ ask 9 (mayErase t d n)
     ∷ ask 10 (implies (isErasedAgain t d n) (isClosed (blockAt t n)))
     ∷ ask 11 (mayOpen t d)
@@ -131,67 +128,46 @@ questions v lent (Erase d n) =
     ∷ ask 13 (withinQuota t d (newOfErase t d n))
     ∷ ask 14 (coveredAfter t d (newOfErase t d n))
     ∷ []
-questions v lent (Close d n) = heldBlockQuestions (v .table) d n
-questions v lent (Free d n) = heldBlockQuestions (v .table) d n
-questions v lent (WriteByPlacement d p start count) =
+laterQuestions (Close d n) v k = heldBlockQuestions (v .table) d n
+laterQuestions (Free d n) v k = heldBlockQuestions (v .table) d n
+laterQuestions (WriteByPlacement d p start count) v k =
     let t = v .table in
     let new = newBlocks t d p (count .0) in
-    ask 2 (sound t)
-    ∷ ask 3 (storeFits t lent)
-    ∷ ask 4 (isDomainId d)
-    ∷ ask 5 (exists t d)
-    ∷ ask 6 (ltb p (domainAt t d .placements) && isCount count)
-    ∷ ask 7 (leb (count .0) (lent .words))
+    ask 6 (ltb p (domainAt t d .placements) && isCount count)
+    ∷ ask 7 (leb (count .0) (k .lent .words))
     ∷ ask 8 (userAddressesFit start (count .0))
     ∷ ask 11 (mayOpenFor (openBlock t d p) t d)
     ∷ ask 12 (serialsLeft t d new)
     ∷ ask 13 (withinQuota t d new)
     ∷ ask 14 (coveredAfter t d new)
     ∷ []
-questions v lent (WriteByBlock d n start count) =
+laterQuestions (WriteByBlock d n start count) v k =
     let t = v .table in
-    ask 2 (sound t)
-    ∷ ask 3 (storeFits t lent)
-    ∷ ask 4 (isDomainId d)
-    ∷ ask 5 (exists t d)
-    ∷ ask 6 (isBlock (t .config) n && isCount count)
-    ∷ ask 7 (leb (count .0) (lent .words))
+    ask 6 (isBlock (t .config) n && isCount count)
+    ∷ ask 7 (leb (count .0) (k .lent .words))
     ∷ ask 8 (userAddressesFit start (count .0))
     ∷ ask 9 (isHeld t d n)
     ∷ ask 10 (isOpenByErase (blockAt t n))
     ∷ ask 15 (leb (blockAt t n .written .0 + count .0) (capacity t n .0))
     ∷ []
-questions v lent (Read d address count expected) =
+laterQuestions (Read d address count expected) v k =
     let t = v .table in
     let a = fieldsOf (t .config) address in
-    ask 2 (sound t)
-    ∷ ask 3 (storeFits t lent)
-    ∷ ask 4 (isDomainId d)
-    ∷ ask 5 (exists t d)
-    ∷ ask 6 (isBlock (t .config) (a .block) && isOffset (t .config) (a .offset) && isCount count)
-    ∷ ask 7 (leb (count .0) (lent .words))
+    ask 6 (isBlock (t .config) (a .block) && isOffset (t .config) (a .offset) && isCount count)
+    ∷ ask 7 (leb (count .0) (k .lent .words))
     ∷ ask 8 (userAddressesFit expected (count .0))
     ∷ ask 9 (isHeld t d (a .block) && eqb (a .domain) d)
     ∷ ask 15 (leb (a .offset .0 + count .0) (blockAt t (a .block) .written .0))
     ∷ ask 16 (matches expected (stored v a (count .0)))
     ∷ []
-questions v lent (Page d n) =
+laterQuestions (Page d n) v k =
     let t = v .table in
-    ask 2 (sound t)
-    ∷ ask 4 (isDomainId d)
-    ∷ ask 5 (exists t d)
-    ∷ ask 6 (isBlock (t .config) n)
-    ∷ ask 7 (leb 256 (lent .bytes))
+    ask 6 (isBlock (t .config) n)
+    ∷ ask 7 (leb 256 (k .lent .bytes))
     ∷ ask 9 (isHeld t d n)
     ∷ []
-questions v lent (Listing d which) =
-    let t = v .table in
-    ask 2 (sound t)
-    ∷ ask 4 (isDomainId d)
-    ∷ ask 5 (exists t d)
-    ∷ ask 7 (leb (listLength t d which) (lent .bytes))
-    ∷ []
-questions v lent (Pulse seconds) =
-    ask 2 (sound (v .table))
-    ∷ ask 6 (between 0 65535 seconds)
-    ∷ []
+laterQuestions (Listing d which) v k = ask 7 (leb (listLength (v .table) d which) (k .lent .bytes)) ∷ []
+laterQuestions (Pulse seconds) v k = ask 6 (between 0 65535 seconds) ∷ []
+
+unfoldable pub questions : Drive → Call → List Question
+questions v k = firstQuestions v k ++ laterQuestions (k .command) v k

@@ -3,7 +3,7 @@ use mathlib.Core.Bool.{cond}
 use mathlib.Core.List.{List, [], _∷_}
 use lib.ListN.{replicate}
 use Rattle.geometry.specs.Questions.{Outcome, Question, answered, ask}
-use Rattle.geometry.specs.Shape.{withinLimits}
+use Rattle.geometry.specs.Shape.{noConfig, withinLimits}
 use Rattle.geometry.specs.declared.shape.Config.{Config}
 use Rattle.model.specs.declared.table.Table.{Table}
 use Rattle.rules.specs.Drive.{clearBlock, clearDomain}
@@ -11,9 +11,6 @@ use Rattle.rules.specs.Drive.{clearBlock, clearDomain}
 -- No domains, and every block Free with P/E count 0.
 abbrev pub emptyTable : Config → Table
 emptyTable c = record { config = c; domains = replicate 16 clearDomain; blocks = replicate 256 clearBlock }
-
-abbrev pub noConfig : Config
-noConfig = record { pages = 0; dies = 0; planes = 0; adus = 0; blocks = 0; rated = 0; period = 0 }
 
 abbrev pub tableOfZeros : Table
 tableOfZeros = emptyTable noConfig

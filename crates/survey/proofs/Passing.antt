@@ -20,7 +20,8 @@ use Rattle.survey.proofs.Choices.{Two, two-free, two-held}
 use Rattle.survey.proofs.Steps.{About, Marked, Next, free-next, held-next, tested-length}
 use Rattle.survey.specs.Clauses.{blocksSound, holderRecord}
 use Rattle.survey.specs.Marks.{markCount}
-use Rattle.survey.specs.Pass.{FreeStepped, HeldStepped, Passing, Stepped, Walked, freeNext, isClear, isPlaced, soundIn, soundWith}
+use Rattle.rules.specs.Soundness.{isClear}
+use Rattle.survey.specs.Pass.{FreeStepped, HeldStepped, Passing, Stepped, Walked, freeNext, isPlaced, soundIn, soundWith}
 use Rattle.survey.specs.Sight.{choiceOf, foundIn, foundOf}
 use Rattle.survey.specs.declared.pass.Pass.{Pass}
 use Rattle.survey.specs.declared.pass.Subject.{Subject}

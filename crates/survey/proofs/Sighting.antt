@@ -1,6 +1,6 @@
 -- What is seen of a table is so: from what the pass over its blocks and the one over its domains have found.
-use Prim.Native.Nat.{ℕ, zero, suc, _+_, _-_, _*_, _/_, _<_, _≤_, min}
-use mathlib.Core.Bool.{Bool, true, false, true≢false, not, _&&_, cond}
+use Prim.Native.Nat.{ℕ, zero, suc, _+_, _-_, _*_, _/_, _<_, _≤_}
+use mathlib.Core.Bool.{Bool, true, false, true≢false, _&&_, cond}
 use mathlib.Core.List.{List}
 use mathlib.Core.Option.{Option, some}
 use mathlib.Core.Path.{_≡_, refl, sym, ap, _∙_, subst}
@@ -8,7 +8,6 @@ use native.Mathlib.Omega.{arith}
 use lib.Dec.{leb, ltb}
 use lib.ListN.{getD, length, length-replicate, replicate, take}
 use lib.Seq.{getD-take, length-take-le}
-use borrow.Author.Tests.{ne-eqb}
 use Rattle.geometry.proofs.Laws.Shape.{both, by-test, is-between, limits}
 use Rattle.geometry.specs.Address.{isDomainId}
 use Rattle.geometry.specs.Shape.{withinLimits}
@@ -21,6 +20,7 @@ use Rattle.model.specs.declared.table.Table.{Table}
 use Rattle.rules.proofs.Counting.{all-none, sum-none}
 use Rattle.rules.specs.Blocks.{chosenTo}
 use Rattle.rules.specs.Drive.{blockAt, clearBlock, heldBy, heldCount, isClosedState, isFree, isFreeState, isOpenFor, isOpenState, openBlock, openBlockTo, openCount, size}
+use Rattle.rules.specs.LogPages.{wearIndex}
 use Rattle.rules.specs.Soundness.{sound}
 use Rattle.survey.proofs.Chains.{last-most}
 use Rattle.survey.proofs.Choices.{Two}
@@ -217,10 +217,11 @@ free-unlisted listed.Closed d b e = rw (shut-closed (b .state) e) (off (heldBy d
 descriptor-digit : (a h d j : ℕ) → a ≤ j → j < 256 → h ≤ 16 → (a + 512 * h + 131072 * d) / 131072 ≡ d
 descriptor-digit a h d j l u w = omega (arith, l, u, w)
 
-listed-code : (s : Subject) (b : Block) (rated : ℕ) → s .listing ≡ true → s .rated ≡ rated → 1 ≤ rated
-    → descriptorCode s b ≡ cond (isListed (s .listed) (s .domain) b) (listMark b + 16 * min (b .erases * 200 / rated) 255) 0
+listed-code : (s : Subject) (b : Block) (rated : ℕ) → s .listing ≡ true → s .rated ≡ rated
+    → descriptorCode s b
+    ≡ cond (isListed (s .listed) (s .domain) b) (listMark (s .listed) b + 16 * wearIndex rated (b .erases)) 0
 unfolding descriptorCode
-listed-code s b rated e f l = rw (e, f, ne-eqb rated 0 (λ q. omega (arith, q, l)))
+listed-code s b rated e f = rw (e, f)
 
 -- ---- All together
 
@@ -242,7 +243,7 @@ module _ {t : Table} {v : View} {ms : List ℕ} {r : Sight} (p : Views t v ms) (
         rw (w .links n l f)
         (descriptor-digit (lastTo (sameKey t (serialKey b)) n) (b .holder) (descriptorCode d b) n (last-most (sameKey t (serialKey b)) n)
         (omega (arith, l, ranges .blocks .most)) (id .most)
-        ∙ listed-code d b (t .config .rated) lists (a .same-rated) (ranges .rated .least)));
+        ∙ listed-code d b (t .config .rated) lists (a .same-rated)));
   }
 
   -- Which block the placement has open.

@@ -9,7 +9,7 @@ use lib.ListN.{length}
 use borrow.Author.Tests.{eq-eqb, eqb-true, le-leb, lt-ltb, ltb-true, ne-eqb}
 use Rattle.geometry.proofs.Laws.Shape.{both, by-test, is-between}
 use Rattle.geometry.specs.Address.{isDomainId}
-use Rattle.geometry.specs.Shape.{adusPerBlock, between}
+use Rattle.geometry.specs.Shape.{adusPerBlock}
 use Rattle.model.specs.declared.block.Block.{Block}
 use Rattle.model.specs.declared.block.State.{State}
 use Rattle.model.specs.declared.block.State.the-variants.{Closed, Free, Open}
@@ -17,13 +17,14 @@ use Rattle.model.specs.declared.block.Way.the-variants.{Erase, Placement}
 use Rattle.model.specs.declared.table.Domain.{Domain}
 use Rattle.model.specs.declared.table.Table.{Table}
 use Rattle.rules.proofs.Counting.{all-next, by-eq, count-most, each-all, sum-next}
+use Rattle.rules.proofs.Kept.Tested.{block-facts, owned-in}
 use Rattle.rules.specs.Counting.{allTo, countTo}
 use Rattle.rules.specs.Drive.{blockAt, heldBy, isFree, isFreeState, isOpen, openOf}
-use Rattle.rules.specs.Soundness.{serialsDiffer, wayBelow}
+use Rattle.rules.specs.Soundness.{blockSound, countsKept, freeIsClear, holderExists, isClear, placementExists, serialGiven, serialsDiffer}
 use Rattle.survey.proofs.Chains.{Chain, chain-tells, key-held, last-most, last-next}
-use Rattle.survey.specs.Clauses.{blockSound, blockSoundIn, holderRecord, keyOf, lastTo, placementSlot, sameKey, serialKey, serialNew, slot, slotFor, slotIn, slotNew}
+use Rattle.survey.specs.Clauses.{holderRecord, keyOf, lastTo, placementSlot, sameKey, serialKey, serialNew, slot, slotFor, slotIn, slotNew}
 use Rattle.survey.specs.Marks.{chainDiffers, chainFrom, mark}
-use Rattle.survey.specs.Pass.{HeldTested, Remembered, descriptorCode, isClear, isSoundIn}
+use Rattle.survey.specs.Pass.{HeldTested, Remembered, descriptorCode, isSoundIn}
 use Rattle.survey.specs.declared.pass.Subject.{Subject}
 
 -- The subject has what the tests need of the table's configuration.
@@ -55,17 +56,24 @@ slot-few h = by-test (isDomainId h)
 -- The tests are those of the clauses, with what the subject has of the configuration.
 sound-in : (t : Table) (n : ℕ) (s : Subject) → About t s
     → isSoundIn s (blockAt t n) (holderRecord t (blockAt t n))
-    ≡ blockSound (t .config .period) (adusPerBlock (t .config) .0) (holderRecord t (blockAt t n)) (blockAt t n)
-unfolding blockSound
+    ≡ blockSound (adusPerBlock (t .config) .0) (t .config .period) (holderRecord t (blockAt t n)) (blockAt t n)
 sound-in t n s a = rw (a .same-period, a .same-capacity)
 
 -- ---- A Free block
 
 -- It is clear, and has neither a slot nor a key.
-free-sound : (x : State) (period c : ℕ) (r : Domain) (b : Block) → isFreeState x ≡ true → blockSoundIn x period c r b ≡ isClear b
-free-sound Free period c r b e = refl
-free-sound (Open way) period c r b e = absurd (true≢false (sym e))
-free-sound (Closed way) period c r b e = absurd (true≢false (sym e))
+pub free-sound : (capacity period : ℕ) (r : Domain) (b : Block) → isFree b ≡ true
+    → blockSound capacity period r b ≡ isClear b
+unfolding blockSound
+free-sound capacity period r b e = go (b .state) refl e
+  where
+    go : (x : State) → b .state ≡ x → isFreeState x ≡ true
+        → serialGiven r b && holderExists r b && placementExists r b && countsKept capacity period (b .state) b
+        && freeIsClear b
+        ≡ isClear b
+    go Free same f = rw same
+    go (Open way) same f = absurd (true≢false (sym f))
+    go (Closed way) same f = absurd (true≢false (sym f))
 
 free-slot : (x : State) (h : ℕ) → isFreeState x ≡ true → slotIn x h ≡ 256
 free-slot Free h e = refl
@@ -130,21 +138,11 @@ slot-most b = go (b .state)
     go (Closed way) = omega arith
 
 -- Its clauses say that a domain holds it.
-held-id : (x : State) (period c : ℕ) (r : Domain) (b : Block) → isFreeState x ≡ false → blockSoundIn x period c r b ≡ true
+pub held-id : (capacity period : ℕ) (r : Domain) (b : Block) → isFree b ≡ false → blockSound capacity period r b ≡ true
     → isDomainId (b .holder) ≡ true
-held-id Free period c r b f e = absurd (true≢false f)
-held-id (Open way) period c r b f e =
-    let e3 = both _ (between 1 period (b .left)) e in
-    let e2 = both _ (ltb (b .written .0) c) (e3 .0) in
-    let e1 = both _ (wayBelow (r .placements) way) (e2 .0) in
-    let e0 = both (isDomainId (b .holder) && r .exists) (between 1 (r .last) (b .serial)) (e1 .0) in
-    both (isDomainId (b .holder)) (r .exists) (e0 .0) .0
-held-id (Closed way) period c r b f e =
-    let e3 = both _ (eqb (b .left) 0) e in
-    let e2 = both _ (leb (b .written .0) c) (e3 .0) in
-    let e1 = both _ (wayBelow (r .placements) way) (e2 .0) in
-    let e0 = both (isDomainId (b .holder) && r .exists) (between 1 (r .last) (b .serial)) (e1 .0) in
-    both (isDomainId (b .holder)) (r .exists) (e0 .0) .0
+held-id capacity period r b f e =
+    let o = owned-in capacity period r b (block-facts capacity period r b e) f in
+    rw (le-leb 1 (b .holder) (o .low), le-leb (b .holder) 16 (o .high))
 
 -- What is given of block n, which a domain holds, and of the marks before and after it.
 pub record Kept (t : Table) (n : ℕ) (s : Subject) (ok : Bool) (m after : List ℕ) : Type 0 where
@@ -352,17 +350,22 @@ tested-length s n b r ok m after t = by-test (isSoundIn s b r)
 
 -- What is tested of block n is what the clauses say, and where they hold the marks are right with it: ..
 pub record Next (t : Table) (n : ℕ) (s : Subject) (ok : Bool) (after : List ℕ) : Type 0 where
-  pub tells : ok ≡ blockSound (t .config .period) (adusPerBlock (t .config) .0) (holderRecord t (blockAt t n)) (blockAt t n) && slotNew t n && serialNew t n
+  pub tells : ok
+      ≡ blockSound (adusPerBlock (t .config) .0) (t .config .period) (holderRecord t (blockAt t n)) (blockAt t n)
+      && slotNew t n && serialNew t n
   pub marks : ok ≡ true → Marked t (n + 1) s after
 
 -- .. of a Free block, ..
 pub free-next : (t : Table) (n : ℕ) (s : Subject) (m : List ℕ) → n < 256 → Marked t n s m → isFree (blockAt t n) ≡ true
     → Next t n s (isClear (blockAt t n)) m
-unfolding blockSound
 free-next t n s m small w e =
     let g = free-tested t n e in
     record {
-      tells = rw (g .0, g .1, free-sound (blockAt t n .state) (t .config .period) (adusPerBlock (t .config) .0) (holderRecord t (blockAt t n)) (blockAt t n) e)
+      tells = rw (
+        g .0,
+        g .1,
+        free-sound (adusPerBlock (t .config) .0) (t .config .period) (holderRecord t (blockAt t n)) (blockAt t n) e,
+      )
           (sym (and-true (isClear (blockAt t n) && true) ∙ and-true (isClear (blockAt t n))));
       marks = λ q. free-marked t n s m small e q w;
     }
@@ -370,14 +373,13 @@ free-next t n s m small w e =
 -- .. and of one that a domain holds.
 pub held-next : (t : Table) (n : ℕ) (s : Subject) (ok : Bool) (m after : List ℕ) → About t s → n < 256 → Marked t n s m
     → isFree (blockAt t n) ≡ false → HeldTested s n (blockAt t n) (holderRecord t (blockAt t n)) ok m after → Next t n s ok after
-unfolding blockSound
 held-next t n s ok m after a small w e tested = by-test (isSoundIn s (blockAt t n) (holderRecord t (blockAt t n)))
     (λ q.
     let own = sym (sound-in t n s a) ∙ q in
     let k : Kept t n s ok m after = record {
       small = small;
       not-free = e;
-      id = held-id (blockAt t n .state) (t .config .period) (adusPerBlock (t .config) .0) (holderRecord t (blockAt t n)) (blockAt t n) e own;
+      id = held-id (adusPerBlock (t .config) .0) (t .config .period) (holderRecord t (blockAt t n)) (blockAt t n) e own;
       before = w;
       does = tested .held q;
     } in

@@ -1,20 +1,19 @@
--- The clauses of soundness as the pass over the blocks and the one over the domains test them.
+-- How the pass over the blocks and the one over the domains test the clauses of soundness.
 use Prim.Native.Nat.{ℕ, zero, suc, _+_, _*_, _%_, _-_, max}
 use mathlib.Core.Bool.{Bool, not, _&&_, cond}
 use mathlib.Core.List.{List}
-use lib.Dec.{eqb, leb, ltb}
+use lib.Dec.{eqb, ltb}
 use lib.ListN.{getD}
 use Rattle.geometry.specs.Address.{isDomainId}
-use Rattle.geometry.specs.Shape.{adusPerBlock, between}
 use Rattle.model.specs.declared.block.Block.{Block}
 use Rattle.model.specs.declared.block.State.{State}
 use Rattle.model.specs.declared.block.State.the-variants.{Closed, Free, Open}
 use Rattle.model.specs.declared.block.Way.the-variants.{Erase, Placement}
 use Rattle.model.specs.declared.table.Domain.{Domain}
 use Rattle.model.specs.declared.table.Table.{Table}
-use Rattle.rules.specs.Counting.{allTo, implies, sumTo}
-use Rattle.rules.specs.Drive.{blockAt, clearDomain, isFree}
-use Rattle.rules.specs.Soundness.{missingIsClear, serialsDiffer, wayBelow}
+use Rattle.rules.specs.Counting.{allTo, sumTo}
+use Rattle.rules.specs.Drive.{blockAt, capacity, clearDomain, isFree}
+use Rattle.rules.specs.Soundness.{blockSound, domainSound, serialsDiffer}
 
 -- Where the record of a holder stands; 0 for what is no domain's ID, whose block is not sound in any case.
 abbrev pub slot : ℕ → ℕ
@@ -22,21 +21,6 @@ slot holder = cond (isDomainId holder) (holder - 1) 0
 
 abbrev pub holderRecord : Table → Block → Domain
 holderRecord t b = getD (t .domains) (slot (b .holder)) clearDomain
-
--- The clauses of a block's record that is not Free, with the record of its holder, ..
-abbrev pub isOwned : Domain → Block → Bool
-isOwned r b = isDomainId (b .holder) && r .exists && between 1 (r .last) (b .serial)
-
--- .. and of any.
-abbrev pub blockSoundIn : State → ℕ → ℕ → Domain → Block → Bool
-blockSoundIn Free period c r b = eqb (b .holder) 0 && eqb (b .written .0) 0 && eqb (b .left) 0 && eqb (b .serial) 0
-blockSoundIn (Open way) period c r b =
-    isOwned r b && wayBelow (r .placements) way && ltb (b .written .0) c && between 1 period (b .left)
-blockSoundIn (Closed way) period c r b =
-    isOwned r b && wayBelow (r .placements) way && leb (b .written .0) c && eqb (b .left) 0
-
-unfoldable pub blockSound : ℕ → ℕ → Domain → Block → Bool
-blockSound period c r b = blockSoundIn (b .state) period c r b
 
 -- What two open blocks of one placement share; 256 for any other block, and where no sound table has such a holder or placement.
 abbrev pub slotFor : ℕ → ℕ → ℕ
@@ -78,24 +62,14 @@ serialNew t n = allTo (λ i. serialsDiffer (blockAt t n) (blockAt t i)) n
 unfoldable pub blocksSound : Table → ℕ → Bool
 blocksSound t n =
     allTo
-    (λ i. blockSound (t .config .period) (adusPerBlock (t .config) .0) (holderRecord t (blockAt t i)) (blockAt t i)
+    (λ i. blockSound (capacity t i .0) (t .config .period) (holderRecord t (blockAt t i)) (blockAt t i)
     && slotNew t i
     && serialNew t i)
     n
 
--- Of a domain that holds and has open so many blocks of so many.
-unfoldable pub domainSound : Domain → ℕ → ℕ → ℕ → Bool
-domainSound r blocks held opened =
-    leb (r .reserved) (r .quota)
-    && leb (r .quota) blocks
-    && leb held (r .quota)
-    && implies (r .exists)
-    (between 1 16 (r .placements) && between (r .placements) 256 (r .limit) && leb opened (r .limit))
-    && missingIsClear r
-
 -- Every domain, with the blocks that each holds and has open.
 unfoldable pub domainsSound : List Domain → ℕ → (ℕ → ℕ) → (ℕ → ℕ) → ℕ → Bool
-domainsSound rs blocks held opened n = allTo (λ i. domainSound (getD rs i clearDomain) blocks (held i) (opened i)) n
+domainsSound rs blocks held opened n = allTo (λ i. domainSound blocks (held i) (opened i) (getD rs i clearDomain)) n
 
 -- The larger of reserved and held, over the first n domains.
 unfoldable pub coveredTo : List Domain → (ℕ → ℕ) → ℕ → ℕ

@@ -1,23 +1,22 @@
 -- The pass over the blocks: what one step tests and finds.
-use Prim.Native.Nat.{ℕ, _+_, _*_, _/_, _<_, min}
+use Prim.Native.Nat.{ℕ, _+_, _*_, _<_}
 use mathlib.Core.Bool.{Bool, true, false, _&&_, cond}
 use mathlib.Core.List.{List, [], _∷_}
 use mathlib.Core.Path.{_≡_}
 use lib.Dec.{eqb, ltb}
 use lib.ListN.{getD}
-use Rattle.survey.specs.Clauses.{blockSound, keyOf, placementSlot, slot}
+use Rattle.survey.specs.Clauses.{keyOf, placementSlot, slot}
 use Rattle.survey.specs.Marks.{Counted, Linked, SlotTaken}
 use Rattle.survey.specs.declared.pass.Candidate.{Candidate}
 use Rattle.survey.specs.declared.pass.Pass.{Pass}
 use Rattle.survey.specs.declared.pass.Subject.{Subject}
 use Rattle.model.specs.declared.block.Block.{Block}
-use Rattle.model.specs.declared.block.State.{State}
-use Rattle.model.specs.declared.block.State.the-variants.{Closed, Free, Open}
-use Rattle.model.specs.declared.block.Way.the-variants.{Erase, Placement}
 use Rattle.model.specs.declared.command.Listed.{Listed}
 use Rattle.model.specs.declared.command.Listed.the-variants as listed
 use Rattle.model.specs.declared.table.Domain.{Domain}
 use Rattle.rules.specs.Drive.{clearDomain, closedOf, heldBy, isFree, isOpen, isOpenFor, openOf}
+use Rattle.rules.specs.LogPages.{integrity, openMark, wearIndex}
+use Rattle.rules.specs.Soundness.{blockSound, isClear}
 
 -- What was found so far, and the marks.
 pub record Passing : Type 0 where
@@ -34,32 +33,22 @@ isListed listed.Open d b = openOf d b
 isListed listed.Closed d b = closedOf d b
 
 -- The one byte: the state of an open block, the integrity of a Closed one.
-abbrev pub listMarkIn : State → ℕ
-listMarkIn Free = 0
-listMarkIn (Open Erase) = 8
-listMarkIn (Open (Placement p)) = 4
-listMarkIn (Closed way) = 1
-
-abbrev pub listMark : Block → ℕ
-listMark b = listMarkIn (b .state)
-
--- The P/E index for a rated count of at least 1.
-abbrev pub wearOf : ℕ → ℕ → ℕ
-wearOf rated erases = cond (eqb rated 0) 0 (min (erases * 200 / rated) 255)
+abbrev pub listMark : Listed → Block → ℕ
+listMark listed.Open b = openMark b
+listMark listed.Closed b = integrity b
 
 -- What a list tells of a block; 0 for a block that is not listed.
 unfoldable pub descriptorCode : Subject → Block → ℕ
 descriptorCode s b =
-    cond (s .listing && isListed (s .listed) (s .domain) b) (listMark b + 16 * wearOf (s .rated) (b .erases)) 0
+    cond (s .listing && isListed (s .listed) (s .domain) b)
+    (listMark (s .listed) b + 16 * wearIndex (s .rated) (b .erases))
+    0
 
 -- ---- The tests of a block
 
-abbrev pub isClear : Block → Bool
-isClear b = eqb (b .holder) 0 && eqb (b .written .0) 0 && eqb (b .left) 0 && eqb (b .serial) 0
-
 -- The clauses of a block that is held, with the record of its holder.
 abbrev pub isSoundIn : Subject → Block → Domain → Bool
-isSoundIn s b r = blockSound (s .period) (s .capacity) r b
+isSoundIn s b r = blockSound (s .capacity) (s .period) r b
 
 -- Where they hold, the block is counted, takes its slot and ends the chain of its key.
 pub record Remembered (s : Subject) (n : ℕ) (b : Block) (ok : Bool) (before after : List ℕ) : Type 0 where

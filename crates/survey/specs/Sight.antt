@@ -8,7 +8,7 @@ use lib.Dec.{ltb}
 use lib.ListN.{getD, length, take}
 use Rattle.geometry.specs.Address.{isDomainId}
 use Rattle.geometry.specs.Shape.{adusPerBlock, withinLimits}
-use Rattle.survey.specs.Clauses.{coveredTo, domainSound, domainsSound}
+use Rattle.survey.specs.Clauses.{coveredTo, domainsSound}
 use Rattle.survey.specs.Marks.{mark, markCount, noMarks}
 use Rattle.survey.specs.Pass.{Passing, Walked, candidate, isListed, listMark, passWith, passing}
 use Rattle.survey.specs.declared.pass.Candidate.{Candidate}
@@ -26,7 +26,7 @@ use Rattle.rules.specs.Blocks.{chosenBlock}
 use Rattle.rules.specs.Domains.{coverage, reservedBy}
 use Rattle.rules.specs.Drive.{blockAt, clearBlock, domainAt, heldCount, isFree, openBlock, openCount, size}
 use Rattle.rules.specs.LogPages.{wearIndex}
-use Rattle.rules.specs.Soundness.{sound}
+use Rattle.rules.specs.Soundness.{domainSound, sound}
 use Rattle.tables.specs.Changes.{ErasesKnown, chosen}
 use Rattle.tables.specs.Changing.{presentBlocks}
 use Rattle.tables.specs.declared.choice.Choice.{Choice}
@@ -85,7 +85,9 @@ Seen d x = (t : Table) × Sees t d x
 pub record SeesList (t : Table) (d : ℕ) (which : Listed) (x : Sight) (marks : List ℕ) : Type 0 where
   pub codes : x .sound ≡ true → (n : ℕ) → n < size t
       → mark marks (544 + n) / 131072
-      ≡ cond (isListed which d (blockAt t n)) (listMark (blockAt t n) + 16 * wearIndex (t .config) (blockAt t n .erases)) 0
+      ≡ cond (isListed which d (blockAt t n))
+      (listMark which (blockAt t n) + 16 * wearIndex (t .config .rated) (blockAt t n .erases))
+      0
 
 -- ---- From the pass
 
@@ -101,7 +103,7 @@ begunCovering = record { sound = true; coverage = 0 }
 
 abbrev pub coveringWith : Covering → ℕ → Domain → ℕ → List ℕ → Covering
 coveringWith c n r blocks marks = record {
-  sound = c .sound && domainSound r blocks (mark marks n) (mark marks (16 + n));
+  sound = c .sound && domainSound blocks (mark marks n) (mark marks (16 + n)) r;
   coverage = c .coverage + max (r .reserved) (mark marks n);
 }
 

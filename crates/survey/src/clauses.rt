@@ -3,10 +3,12 @@ use model::Block;
 use model::Domain;
 use model::State;
 use model::Way;
+ghost use mathlib.Core.Bool.{false, _&&_};
 ghost use mathlib.Core.Path.{_≡_};
 ghost use Prim.Native.Nat.{_<_, _≤_, max};
-ghost use Rattle.rules.specs.Soundness.{wayBelow};
-ghost use Rattle.survey.specs.Clauses.{blockSound, domainSound, isOwned, keyOf, placementSlot, slot, slotFor};
+ghost use Rattle.rules.specs.Drive.{isFree};
+ghost use Rattle.rules.specs.Soundness.{blockSound, domainSound, holderExists, isClear, serialGiven, wayBelow};
+ghost use Rattle.survey.specs.Clauses.{keyOf, placementSlot, slot, slotFor};
 
 // Where the record of a holder stands; the first for what is no domain's ID, whose block is not sound in any case.
 pub(crate) fn slot(holder: u8) -> usize
@@ -35,36 +37,38 @@ fn way_below(placements: u32, way: Way) -> bool
     }
 }
 
+// Of a block that is not Free, its serial and its holder.
 fn is_owned(holder: Domain, block: Block) -> bool
-    ensures { λ r. ⌜ r ≡ isOwned holder block ⌝ }
+    ensures { λ r. ⌜ (isFree block ≡ false → r ≡ serialGiven holder block && holderExists holder block) ⌝ }
 {
-    (1 <= block.holder)
-        & (block.holder <= 16)
-        & holder.exists
-        & ((1 <= block.serial) & (block.serial <= holder.last))
+    ((1 <= block.serial) & (block.serial <= holder.last))
+        & ((1 <= block.holder) & (block.holder <= 16) & holder.exists)
 }
 
-// Of a block that a domain holds, with what is told of that domain.
-pub(crate) fn block_sound(period: u64, capacity: u64, holder: Domain, block: Block) -> bool
-    ensures { λ r. ⌜ r ≡ blockSound period capacity holder block ⌝ }
+// Is there nothing in the record but the P/E count?
+pub(crate) fn is_clear(block: Block) -> bool
+    ensures { λ r. ⌜ r ≡ isClear block ⌝ }
+{
+    (block.holder == 0) & (block.written.0 == 0) & (block.left == 0) & (block.serial == 0)
+}
+
+// The clauses of one block, with the record of its holder.
+pub(crate) fn block_sound(capacity: u64, period: u64, holder: Domain, block: Block) -> bool
+    ensures { λ r. ⌜ r ≡ blockSound capacity period holder block ⌝ }
 {
     let left = block.left as u64;
     let state = block.state;
     match state {
-        State::Free => {
-            (block.holder == 0) & (block.written.0 == 0) & (block.left == 0) & (block.serial == 0)
-        }
+        State::Free => is_clear(block),
         State::Open(way) => {
             is_owned(holder, block)
                 & way_below(holder.placements as u32, way)
-                & (block.written.0 < capacity)
-                & ((1 <= left) & (left <= period))
+                & ((block.written.0 < capacity) & ((1 <= left) & (left <= period)))
         }
         State::Closed(way) => {
             is_owned(holder, block)
                 & way_below(holder.placements as u32, way)
-                & (block.written.0 <= capacity)
-                & (left == 0)
+                & ((block.written.0 <= capacity) & (left == 0))
         }
     }
 }
@@ -103,8 +107,8 @@ pub(crate) fn serial_key(holder: u8, serial: u32) -> usize
 }
 
 // The clauses of a domain that holds and has open so many of so many blocks.
-pub(crate) fn domain_sound(domain: Domain, blocks: u64, held: u64, opened: u64) -> bool
-    ensures { λ r. ⌜ r ≡ domainSound domain blocks held opened ⌝ }
+pub(crate) fn domain_sound(blocks: u64, held: u64, opened: u64, domain: Domain) -> bool
+    ensures { λ r. ⌜ r ≡ domainSound blocks held opened domain ⌝ }
 {
     let placements = domain.placements as u32;
     if domain.exists {

@@ -1,6 +1,7 @@
 // The pass over the blocks: block by block it tests the clauses of soundness that speak of one block or of two,
 // counts each domain's blocks, and finds what the command is about.
 use crate::clauses::block_sound;
+use crate::clauses::is_clear;
 use crate::clauses::placement_slot;
 use crate::clauses::serial_key;
 use crate::clauses::slot;
@@ -12,17 +13,20 @@ use model::Domain;
 use model::Listed;
 use model::State;
 use model::Way;
+use tables::integrity;
 use tables::is_closed;
 use tables::is_free;
 use tables::is_held;
 use tables::is_open;
+use tables::state_byte;
+use tables::wear_index;
 ghost use mathlib.Core.Bool.{true, cond};
 ghost use mathlib.Core.Path.{_≡_};
 ghost use Prim.Native.Nat.{_<_};
 ghost use lib.ListN.{length};
 ghost use Rattle.rules.specs.Drive.{isOpenFor};
 ghost use Rattle.survey.specs.Marks.{markCount};
-ghost use Rattle.survey.specs.Pass.{HeldTested, Remembered, Stepped, chosenNext, descriptorCode, freeNext, heldNext, isClear, isListed, isPlaced, listMark, passing, soundWith, wearOf};
+ghost use Rattle.survey.specs.Pass.{HeldTested, Remembered, Stepped, chosenNext, descriptorCode, freeNext, heldNext, isListed, isPlaced, listMark, passing, soundWith};
 
 // What a command is about, so that one pass over the blocks finds all that it asks for.
 pub struct Subject {
@@ -61,12 +65,6 @@ pub struct Pass {
 
 // ---- The tests of a block
 
-fn is_clear(block: Block) -> bool
-    ensures { λ r. ⌜ r ≡ isClear block ⌝ }
-{
-    (block.holder == 0) & (block.written.0 == 0) & (block.left == 0) & (block.serial == 0)
-}
-
 fn is_listed(listed: Listed, domain: u64, block: Block) -> bool
     ensures { λ r. ⌜ r ≡ isListed listed domain block ⌝ }
 {
@@ -77,29 +75,14 @@ fn is_listed(listed: Listed, domain: u64, block: Block) -> bool
 }
 
 // The one byte of a descriptor: the state of an open block, the integrity of a Closed one.
-fn list_mark(block: Block) -> u32
-    ensures { λ r. ⌜ (r ≡ listMark block) × (r < 16) ⌝ }
+fn list_mark(listed: Listed, block: Block) -> u64
+    ensures { λ r. ⌜ (r ≡ listMark listed block) × (r < 16) ⌝ }
 {
     let state = block.state;
-    match state {
-        State::Free => 0,
-        State::Open(way) => match way {
-            Way::Erase => 8,
-            Way::Placement(_) => 4,
-        },
-        State::Closed(_) => 1,
+    match listed {
+        Listed::Open => state_byte(state),
+        Listed::Closed => integrity(block),
     }
-}
-
-// P/E count × 200 / N, at most 255; N is at least 1.
-fn wear(rated: u64, erases: u32) -> u32
-    ensures { λ r. ⌜ (r ≡ wearOf rated erases) × (r < 256) ⌝ }
-{
-    if rated == 0 {
-        return 0;
-    }
-    let index = erases as u64 * 200 / rated;
-    if index < 255 { index as u32 } else { 255 }
 }
 
 // What a list tells of a block, its mark and 16 times its P/E index; 0 for a block that is not listed.
@@ -109,7 +92,7 @@ fn descriptor_code(subject: Subject, block: Block) -> u32
     let listed = subject.listed;
     if subject.listing {
         if is_listed(listed, subject.domain, block) {
-            return list_mark(block) + 16 * wear(subject.rated, block.erases);
+            return (list_mark(listed, block) + 16 * wear_index(subject.rated, block.erases)) as u32;
         }
     }
     0
@@ -133,7 +116,7 @@ fn test_held(subject: Subject, n: usize, block: Block, holder: Domain, marks: &m
     requires { ⌜ (n < 256) × (length (now marks) ≡ markCount) ⌝ }
     ensures { λ r. ⌜ HeldTested subject n block holder r (now (marks .entry)) (now (marks .exit)) ⌝ }
 {
-    if block_sound(subject.period, subject.capacity, holder, block) {
+    if block_sound(subject.capacity, subject.period, holder, block) {
         return remember(subject, n, block, marks);
     }
     false

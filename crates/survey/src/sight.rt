@@ -69,7 +69,7 @@ pub fn domain_passed(
     let held = wide(marks[n]);
     let opened = wide(marks[16 + n]);
     Covering {
-        sound: covering.sound & domain_sound(domain, blocks, held, opened),
+        sound: covering.sound & domain_sound(blocks, held, opened, domain),
         coverage: covering.coverage + larger(domain.reserved as u64, held),
     }
 }

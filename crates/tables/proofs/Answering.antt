@@ -5,7 +5,6 @@ use mathlib.Core.List.{List, [], _∷_, _++_}
 use mathlib.Core.Path.{_≡_, refl, sym, ap, _∙_}
 use native.Mathlib.Omega.{arith}
 use lib.Dec.{ltb}
-use lib.ListN.{drop, take, take-append-drop}
 use borrow.Author.Tests.{ltb-true, ne-eqb}
 use Rattle.geometry.proofs.Laws.Questions.{answered-no, answered-yes, positive}
 use Rattle.geometry.proofs.Laws.Shape.{both}
@@ -17,15 +16,13 @@ use Rattle.model.specs.Answers.{numberOf, outcomeOf}
 use Rattle.model.specs.declared.answer.Answer.{Answer}
 use Rattle.model.specs.declared.answer.Refusal.{Refusal}
 use Rattle.model.specs.declared.answer.Refusal.the-variants.{Unsound}
-use Rattle.model.specs.declared.command.Command.{Command}
-use Rattle.model.specs.declared.command.Command.the-variants.{ChangeCapacity, Close, Create, Delete, Erase, Free, List as Listing, Page, Pulse, Read}
-use Rattle.model.specs.declared.command.Command.the-variants.{WriteByBlock, WriteByPlacement}
 use Rattle.model.specs.declared.table.Table.{Table}
 use Rattle.rules.proofs.Drive.{overwritten-nothing}
-use Rattle.rules.proofs.Questions.{all-positive, in-order}
+use Rattle.rules.proofs.Questions.{after, before, from, in-parts, none-zero, positive-after, positive-before}
+use Rattle.rules.specs.Calls.{Call, profile}
 use Rattle.rules.specs.Drive.{Drive, overwritten}
-use Rattle.rules.specs.Effects.{Effect, Fills, Served, Serves, accepted, changing, driveAfter, effect, lengthsOf, verdict, wordsFilled}
-use Rattle.rules.specs.Questions.{Lengths, questions}
+use Rattle.rules.specs.Effects.{Effect, Fills, Served, Serves, accepted, changing, effect, step, verdict, wordsFilled}
+use Rattle.rules.specs.Questions.{questions}
 use Rattle.rules.specs.Soundness.{sound}
 
 -- ---- Questions in parts
@@ -86,122 +83,90 @@ pub one-by-one-after : (xs ys : List Question) → positive xs ≡ true → posi
 one-by-one-after xs ys p q = chain-then (firstNo xs) ys q ∙ sym (first-append xs ys p)
 
 -- Question 2 comes first.
-sound-first : (v : Drive) (lent : Lengths) (c : Command) → questions v lent c ≡ ask 2 (sound (v .table)) ∷ drop 1 (questions v lent c)
-unfolding questions
-sound-first v lent (Create d guarantee quota placements limit) = refl
-sound-first v lent (ChangeCapacity d guarantee quota) = refl
-sound-first v lent (Delete d) = refl
-sound-first v lent (Erase d n) = refl
-sound-first v lent (Close d n) = refl
-sound-first v lent (Free d n) = refl
-sound-first v lent (WriteByPlacement d p start count) = refl
-sound-first v lent (WriteByBlock d n start count) = refl
-sound-first v lent (Read d address count expected) = refl
-sound-first v lent (Page d n) = refl
-sound-first v lent (Listing d which) = refl
-sound-first v lent (Pulse seconds) = refl
+unsound-verdict : (v : Drive) (k : Call) → sound (v .table) ≡ false → verdict v k ≡ 2
+unfolding firstNo questions
+unsound-verdict v k e = rw e
 
-unsound-verdict : (v : Drive) (lent : Lengths) (c : Command) → sound (v .table) ≡ false → verdict v lent c ≡ 2
-unfolding firstNo
-unsound-verdict v lent c e = ap firstNo (sound-first v lent c) ∙ rw e
+pub sound-verdict : (v : Drive) (k : Call) → sound (v .table) ≡ true → verdict v k ≡ firstNo (after 2 (questions v k))
+unfolding firstNo questions
+sound-verdict v k e = rw e
 
-pub sound-verdict : (v : Drive) (lent : Lengths) (c : Command) → sound (v .table) ≡ true → verdict v lent c ≡ firstNo (drop 1 (questions v lent c))
-unfolding firstNo
-sound-verdict v lent c e = ap firstNo (sound-first v lent c) ∙ rw e
-
--- The rest of the questions, put in two parts.
-positive-rest : (qs : List Question) → positive qs ≡ true → positive (drop 1 qs) ≡ true
-unfolding positive
-positive-rest [] p = refl
-positive-rest (q ∷ qs) p = both (ltb 0 (q .number)) (positive qs) p .1
-
-rest-positive : (v : Drive) (lent : Lengths) (c : Command) → positive (drop 1 (questions v lent c)) ≡ true
-rest-positive v lent c = positive-rest (questions v lent c) (all-positive 1 (questions v lent c) (in-order v lent c))
-
-positive-take : (k : ℕ) (qs : List Question) → positive qs ≡ true → positive (take k qs) ≡ true
-unfolding positive
-positive-take zero qs p = refl
-positive-take (suc k) [] p = refl
-positive-take (suc k) (q ∷ qs) p =
-    let h = both (ltb 0 (q .number)) (positive qs) p in rw (h .0) (positive-take k qs (h .1))
-
-pub two-parts : (v : Drive) (lent : Lengths) (c : Command) (k : ℕ)
-    → firstNo (drop 1 (questions v lent c))
-    ≡ thenNumber (firstNo (take k (drop 1 (questions v lent c)))) (firstNo (drop k (drop 1 (questions v lent c))))
-two-parts v lent c k =
-    let qs = drop 1 (questions v lent c) in
-    ap firstNo (sym (take-append-drop k qs))
-    ∙ first-append (take k qs) (drop k qs) (positive-take k qs (rest-positive v lent c))
+-- The others, put in two parts: those before the question with this number, and those from it on.
+pub two-parts : (v : Drive) (k : Call) (n : ℕ)
+    → firstNo (after 2 (questions v k))
+    ≡ thenNumber (firstNo (before n (after 2 (questions v k)))) (firstNo (from n (after 2 (questions v k))))
+two-parts v k n =
+    let qs = after 2 (questions v k) in
+    ap firstNo (sym (in-parts n qs))
+    ∙ first-append (before n qs) (from n qs) (positive-before n qs (positive-after 2 (questions v k) (none-zero v k)))
 
 -- A no in the first part is the first no, ..
-pub first-part : (v : Drive) (lent : Lengths) (c : Command) (k : ℕ) (reason : Refusal)
-    → numberOf reason ≡ firstNo (take k (drop 1 (questions v lent c))) → numberOf reason ≡ firstNo (drop 1 (questions v lent c))
-first-part v lent c k reason e =
-    let rest = firstNo (drop k (drop 1 (questions v lent c))) in
-    sym (two-parts v lent c k ∙ ap (λ (n : ℕ). thenNumber n rest) (sym e) ∙ first-stays reason rest)
+pub first-part : (v : Drive) (k : Call) (n : ℕ) (reason : Refusal)
+    → numberOf reason ≡ firstNo (before n (after 2 (questions v k))) → numberOf reason ≡ firstNo (after 2 (questions v k))
+first-part v k n reason e =
+    let rest = firstNo (from n (after 2 (questions v k))) in
+    sym (two-parts v k n ∙ ap (λ (m : ℕ). thenNumber m rest) (sym e) ∙ first-stays reason rest)
 
 -- .. and without one it is the second part's.
-pub second-part : (v : Drive) (lent : Lengths) (c : Command) (k : ℕ) → firstNo (take k (drop 1 (questions v lent c))) ≡ 0
-    → firstNo (drop 1 (questions v lent c)) ≡ firstNo (drop k (drop 1 (questions v lent c)))
+pub second-part : (v : Drive) (k : Call) (n : ℕ) → firstNo (before n (after 2 (questions v k))) ≡ 0
+    → firstNo (after 2 (questions v k)) ≡ firstNo (from n (after 2 (questions v k)))
 unfolding thenNumber
-second-part v lent c k e =
-    two-parts v lent c k ∙ ap (λ (n : ℕ). thenNumber n (firstNo (drop k (drop 1 (questions v lent c))))) e
+second-part v k n e =
+    two-parts v k n ∙ ap (λ (m : ℕ). thenNumber m (firstNo (from n (after 2 (questions v k))))) e
 
 -- ---- What a call hands back
 
 -- A refused call hands back what it was given.
-refused-call : (v : Drive) (c : Command) (words bytes : List ℕ) (reason : Refusal)
-    → verdict v (lengthsOf v words bytes) c ≡ numberOf reason
-    → Serves v c words bytes (served (refusing (v .table) reason) (v .store) words bytes)
-unfolding driveAfter wordsFilled
-refused-call v c words bytes reason e =
-    let lent = lengthsOf v words bytes in
-    let no : accepted v lent c ≡ false = ne-eqb (verdict v lent c) 0 (λ z. omega (arith, refusal-positive reason, sym e ∙ z)) in
+refused-call : (v : Drive) (k : Call) (words bytes : List ℕ) (reason : Refusal)
+    → verdict v k ≡ numberOf reason
+    → Serves v k words bytes (served (refusing (v .table) reason) (v .store) words bytes)
+unfolding step wordsFilled
+refused-call v k words bytes reason e =
+    let no : accepted v k ≡ false = ne-eqb (verdict v k) 0 (λ z. omega (arith, refusal-positive reason, sym e ∙ z)) in
     record {
-      answers = sym (answered-no (questions v lent c) (effect c v .values) (numberOf reason) (refusal-positive reason) e);
+      answers = sym (answered-no (questions v k) (effect v k .values) (numberOf reason) (refusal-positive reason) e);
       leaves = rw no;
       fills-words = rw no (sym (overwritten-nothing words));
       fills-bytes = ([], rw no, sym (overwritten-nothing bytes));
     }
 
 -- An accepted call hands back its effect.
-pub accepted-call : (v : Drive) (c : Command) (words bytes : List ℕ) (r : Served) (filled : List ℕ)
-    → verdict v (lengthsOf v words bytes) c ≡ 0
-    → r .answer ≡ success (effect c v .values)
-    → r .drive ≡ effect c v .drive
-    → r .words ≡ overwritten 0 (effect c v .words) words
-    → Fills c (v .table) filled
+pub accepted-call : (v : Drive) (k : Call) (words bytes : List ℕ) (r : Served) (filled : List ℕ)
+    → verdict v k ≡ 0
+    → r .answer ≡ success (effect v k .values)
+    → r .drive ≡ effect v k .drive
+    → r .words ≡ overwritten 0 (effect v k .words) words
+    → Fills (profile (k .command) .bytes) (v .table) filled
     → r .bytes ≡ overwritten 0 filled bytes
-    → Serves v c words bytes r
-unfolding driveAfter wordsFilled
-accepted-call v c words bytes r filled e answers leaves fills bytes-are bytes-fill = record {
-  answers = answers ∙ sym (answered-yes (questions v (lengthsOf v words bytes) c) (effect c v .values) e);
+    → Serves v k words bytes r
+unfolding step wordsFilled
+accepted-call v k words bytes r filled e answers leaves fills bytes-are bytes-fill = record {
+  answers = answers ∙ sym (answered-yes (questions v k) (effect v k .values) e);
   leaves = leaves ∙ rw e;
   fills-words = fills ∙ rw e;
   fills-bytes = (filled, rw e bytes-are, bytes-fill);
 }
 
 -- In the two cases in which the code refuses: an unsound table, and a later no.
-pub unsound-call : (v : Drive) (c : Command) (words bytes : List ℕ) → sound (v .table) ≡ false
-    → Serves v c words bytes (served (refusing (v .table) Unsound) (v .store) words bytes)
-unsound-call v c words bytes e = refused-call v c words bytes Unsound (unsound-verdict v (lengthsOf v words bytes) c e)
+pub unsound-call : (v : Drive) (k : Call) (words bytes : List ℕ) → sound (v .table) ≡ false
+    → Serves v k words bytes (served (refusing (v .table) Unsound) (v .store) words bytes)
+unsound-call v k words bytes e = refused-call v k words bytes Unsound (unsound-verdict v k e)
 
-pub later-no : (v : Drive) (c : Command) (words bytes : List ℕ) (reason : Refusal) → sound (v .table) ≡ true
-    → numberOf reason ≡ firstNo (drop 1 (questions v (lengthsOf v words bytes) c))
-    → Serves v c words bytes (served (refusing (v .table) reason) (v .store) words bytes)
-later-no v c words bytes reason s e =
-    refused-call v c words bytes reason (sound-verdict v (lengthsOf v words bytes) c s ∙ sym e)
+pub later-no : (v : Drive) (k : Call) (words bytes : List ℕ) (reason : Refusal) → sound (v .table) ≡ true
+    → numberOf reason ≡ firstNo (after 2 (questions v k))
+    → Serves v k words bytes (served (refusing (v .table) reason) (v .store) words bytes)
+later-no v k words bytes reason s e = refused-call v k words bytes reason (sound-verdict v k s ∙ sym e)
 
 -- An accepted call that fills nothing and leaves the store: its answer and its table.
-pub table-call : (v : Drive) (c : Command) (words bytes values : List ℕ) (answer : Answer) (after : Table) → sound (v .table) ≡ true
-    → firstNo (drop 1 (questions v (lengthsOf v words bytes) c)) ≡ 0
-    → effect c v ≡ changing values after v
+pub table-call : (v : Drive) (k : Call) (words bytes values : List ℕ) (answer : Answer) (after-it : Table) → sound (v .table) ≡ true
+    → firstNo (after 2 (questions v k)) ≡ 0
+    → effect v k ≡ changing values after-it v
     → outcomeOf answer ≡ success values
-    → Fills c (v .table) []
-    → Serves v c words bytes (served (answering after answer) (v .store) words bytes)
-table-call v c words bytes values answer after s e does says bytes-are =
-    accepted-call v c words bytes (served (answering after answer) (v .store) words bytes) []
-    (sound-verdict v (lengthsOf v words bytes) c s ∙ e)
+    → Fills (profile (k .command) .bytes) (v .table) []
+    → Serves v k words bytes (served (answering after-it answer) (v .store) words bytes)
+table-call v k words bytes values answer after-it s e does says bytes-are =
+    accepted-call v k words bytes (served (answering after-it answer) (v .store) words bytes) []
+    (sound-verdict v k s ∙ e)
     (says ∙ ap (λ (x : Effect). success (x .values)) (sym does))
     (ap (λ (x : Effect). x .drive) (sym does))
     (sym (overwritten-nothing words) ∙ ap (λ (x : Effect). overwritten 0 (x .words) words) (sym does))

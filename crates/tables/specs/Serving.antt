@@ -6,7 +6,9 @@ use Rattle.model.specs.Answers.{outcomeOf}
 use Rattle.model.specs.declared.answer.Answer.{Answer}
 use Rattle.model.specs.declared.answer.Answer.the-variants.{Refused}
 use Rattle.model.specs.declared.answer.Refusal.{Refusal}
+use Rattle.model.specs.declared.command.Command.{Command}
 use Rattle.model.specs.declared.table.Table.{Table}
+use Rattle.rules.specs.Calls.{calling}
 use Rattle.rules.specs.Drive.{Drive}
 use Rattle.rules.specs.Effects as rules
 
@@ -22,10 +24,14 @@ served r store words bytes = record {
   bytes = bytes;
 }
 
--- The same of a command that hands back its answer alone: it is given no way to change the table or the store.
+-- The answer of a command, and the table that it leaves.
 abbrev pub answering : Table → Answer → Served
 answering t answer = record { answer = answer; table = t }
 
 -- A refusal leaves the table.
 abbrev pub refusing : Table → Refusal → Served
 refusing t reason = answering t (Refused reason)
+
+-- What a function may hand back that is given a table, a command and these buffers.
+abbrev pub ServesCommand : Table → Command → List ℕ → List ℕ → List ℕ → rules.Served → Type 0
+ServesCommand t c store words bytes r = rules.Serves (drive t store) (calling c store words bytes) words bytes r

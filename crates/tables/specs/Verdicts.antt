@@ -6,7 +6,7 @@ use Rattle.tables.specs.declared.questions.Verdict.{Verdict}
 use Rattle.tables.specs.declared.questions.Verdict.the-variants.{No, Pass}
 use Rattle.model.specs.Answers.{numberOf}
 use Rattle.model.specs.declared.table.Table.{Table}
-use Rattle.rules.specs.Questions.{Lengths, coveredAfter, serialsLeft, withinQuota}
+use Rattle.rules.specs.Questions.{coveredAfter, serialsLeft, withinQuota}
 
 -- The number of the first no, or 0.
 abbrev pub verdictNumber : Verdict → ℕ
@@ -17,10 +17,6 @@ verdictNumber (No reason) = numberOf reason
 unfoldable pub thenNumber : ℕ → ℕ → ℕ
 thenNumber zero next = next
 thenNumber (suc first) next = suc first
-
--- The lengths that are lent.
-abbrev pub lending : ℕ → ℕ → ℕ → Lengths
-lending store words bytes = record { store = store; words = words; bytes = bytes }
 
 -- 12 to 14, of so many new serials and new blocks.
 abbrev pub newBlocksQuestions : Table → ℕ → ℕ → ℕ → List Question

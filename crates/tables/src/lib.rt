@@ -1,10 +1,11 @@
-// What the commands' functions share: clear records and tests of a block's, the questions and how they are put
-// one after the other, and what a command changes.
+// What the commands' functions share: clear records and tests of a block's, what a page and a list tell of it, the
+// questions and how they are put one after the other, and what a command changes.
 //
 // These functions serve the crates of the commands. What a host calls is in `manager`.
 mod arguments;
 mod change;
 mod choice;
+mod fields;
 mod questions;
 mod records;
 mod served;
@@ -21,6 +22,9 @@ pub use change::pulse_change;
 pub use change::refusal;
 pub use change::unchanged;
 pub use choice::Choice;
+pub use fields::integrity;
+pub use fields::state_byte;
+pub use fields::wear_index;
 pub use questions::Verdict;
 pub use questions::ask;
 pub use questions::is_held;

@@ -1,23 +1,16 @@
 // Clear records, and what the state of a block's record tells.
-use geometry::Adus;
 use model::Block;
 use model::Domain;
 use model::State;
 use model::Way;
+use model::free_block;
 ghost use mathlib.Core.Path.{_≡_};
 ghost use Rattle.rules.specs.Drive.{clearBlock, clearDomain, isClosed, isFree, isOpen, isOpenByErase};
 
 pub fn clear_block() -> Block
     ensures { λ r. ⌜ r ≡ clearBlock ⌝ }
 {
-    Block {
-        state: State::Free,
-        holder: 0,
-        written: Adus(0),
-        left: 0,
-        erases: 0,
-        serial: 0,
-    }
+    free_block(0)
 }
 
 pub fn clear_domain() -> Domain

@@ -2,9 +2,8 @@
 use Prim.Native.Nat.{ℕ, _+_, _≤_, _<_}
 use mathlib.Core.Bool.{true, _&&_}
 use mathlib.Core.List.{List, [], _++_}
-use mathlib.Core.Path.{_≡_, refl, sym, ap, _∙_}
+use mathlib.Core.Path.{_≡_, refl, sym, _∙_}
 use lib.Dec.{leb}
-use lib.ListN.{drop, take}
 use borrow.Author.Tests.{eqb-true, leb-true, ltb-true}
 use Rattle.geometry.proofs.Laws.Questions.{positive}
 use Rattle.geometry.proofs.Laws.Shape.{both, by-test, is-between}
@@ -23,19 +22,18 @@ use Rattle.model.specs.declared.block.Block.{Block}
 use Rattle.model.specs.declared.command.Command.the-variants.{Read, WriteByBlock}
 use Rattle.model.specs.declared.table.Table.{Table}
 use Rattle.rules.proofs.Drive.{overwritten-nothing}
-use Rattle.rules.proofs.Questions.{yes-at}
+use Rattle.rules.proofs.Questions.{after, before, from, yes-in}
 use Rattle.rules.specs.Blocks.{matches, stored, userAddresses, writtenInto}
+use Rattle.rules.specs.Calls.{calling}
 use Rattle.rules.specs.Drive.{Drive, overwritten, size, withBlock}
-use Rattle.rules.specs.Effects.{Serves, effect, lengthsOf}
+use Rattle.rules.specs.Effects.{Serves, effect}
 use Rattle.rules.specs.Questions.{isCount, questions, userAddressesFit}
 use Rattle.rules.specs.Soundness.{sound}
 use Rattle.survey.proofs.Seeing.{changed-block, sound-limits}
 use Rattle.survey.specs.declared.sight.Sight.{Sight}
-use Rattle.tables.proofs.Answering.{accepted-call, later-no, sound-verdict, two-parts}
-use Rattle.tables.proofs.Refusals.{first-stays}
+use Rattle.tables.proofs.Answering.{accepted-call, first-part, later-no, second-part, sound-verdict}
 use Rattle.tables.specs.Changing.{blockChange, outcomeServed}
-use Rattle.tables.specs.Serving.{answering, drive, refusing, served}
-use Rattle.tables.specs.Verdicts.{thenNumber}
+use Rattle.tables.specs.Serving.{ServesCommand, answering, drive, refusing, served}
 use Rattle.transfers.specs.Transfers.{MayWriteIn, ReadsStretch, Wrote, readArguments, readState, writeArguments, writeState}
 
 -- ---- Write by block
@@ -47,14 +45,14 @@ pub may-write : (x : Sight) (entries room d n start : ℕ) (count : Adus) → wi
 unfolding positive writeArguments writeState
 may-write x entries room d n start count within e =
     let qs = writeArguments x entries room d n count ++ writeState x d start count in
-    let range = both (isBlock (x .config) n) (isCount count) (yes-at 3 qs refl e) in
+    let range = both (isBlock (x .config) n) (isCount count) (yes-in 6 qs refl e) in
     record {
       limits = within;
-      id = yes-at 1 qs refl e;
+      id = yes-in 4 qs refl e;
       inside = ltb-true n (x .config .blocks) (range .0);
-      entries = eqb-true entries (storeLength (x .config) .0) (yes-at 0 qs refl e);
+      entries = eqb-true entries (storeLength (x .config) .0) (yes-in 3 qs refl e);
       some-written = is-between 1 256 (count .0) (range .1) .least;
-      fits = leb-true (x .block .written .0 + count .0) (adusPerBlock (x .config) .0) (yes-at 8 qs refl e);
+      fits = leb-true (x .block .written .0 + count .0) (adusPerBlock (x .config) .0) (yes-in 15 qs refl e);
     }
 
 -- .. its user addresses can be told, and there is room for its words.
@@ -64,22 +62,22 @@ pub write-fits : (x : Sight) (entries room d n start : ℕ) (count : Adus)
 unfolding positive writeArguments writeState
 write-fits x entries room d n start count e =
     let qs = writeArguments x entries room d n count ++ writeState x d start count in
-    (yes-at 5 qs refl e, leb-true (count .0) room (yes-at 4 qs refl e))
+    (yes-in 8 qs refl e, leb-true (count .0) room (yes-in 7 qs refl e))
 
 -- The block's new record and what was put into the store and the words are what it hands back.
-pub write-done : (t : Table) (store words bytes : List ℕ) (d n start : ℕ) (count : Adus) (b : Block) (after filled : List ℕ) → sound t ≡ true
+pub write-done : (t : Table) (store words bytes : List ℕ) (d n start : ℕ) (count : Adus) (b : Block) (left filled : List ℕ) → sound t ≡ true
     → n < size t
-    → firstNo (drop 1 (questions (drive t store) (lengthsOf (drive t store) words bytes) (WriteByBlock d n start count))) ≡ 0
-    → Wrote (writtenInto d n (userAddresses start (count .0)) (drive t store)) words (drive (withBlock n b t) after) filled
-    → Serves (drive t store) (WriteByBlock d n start count) words bytes
-    (served (outcomeServed t (record { answer = Done; change = blockChange n b })) after filled bytes)
+    → firstNo (after 2 (questions (drive t store) (calling (WriteByBlock d n start count) store words bytes))) ≡ 0
+    → Wrote (writtenInto d n (userAddresses start (count .0)) (drive t store)) words (drive (withBlock n b t) left) filled
+    → ServesCommand t (WriteByBlock d n start count) store words bytes
+    (served (outcomeServed t (record { answer = Done; change = blockChange n b })) left filled bytes)
 unfolding effect
-write-done t store words bytes d n start count b after filled whole l e wrote =
+write-done t store words bytes d n start count b left filled whole l e wrote =
     let v = drive t store in
-    let k = WriteByBlock d n start count in
+    let call = calling (WriteByBlock d n start count) store words bytes in
     rw (changed-block t n b (sound-limits t whole) l)
-    (accepted-call v k words bytes (served (answering (withBlock n b t) Done) after filled bytes) []
-    (sound-verdict v (lengthsOf v words bytes) k whole ∙ e)
+    (accepted-call v call words bytes (served (answering (withBlock n b t) Done) left filled bytes) []
+    (sound-verdict v call whole ∙ e)
     refl (wrote .leaves) (wrote .fills) refl (sym (overwritten-nothing bytes)))
 
 -- ---- Read
@@ -100,54 +98,47 @@ pub may-read : (x : Sight) (entries room d : ℕ) (a : FlashAddress) (count : Ad
 unfolding positive readArguments readState
 may-read x entries room d a count expected within e =
     let qs = readArguments x entries room d a count ++ readState x d a count expected in
-    let range = both (isBlock (x .config) (a .block) && isOffset (x .config) (a .offset)) (isCount count) (yes-at 3 qs refl e) in
+    let range = both (isBlock (x .config) (a .block) && isOffset (x .config) (a .offset)) (isCount count) (yes-in 6 qs refl e) in
     let end = a .offset .0 + count .0 in
     record {
       limits = within;
       inside = ltb-true (a .block) (x .config .blocks) (both (isBlock (x .config) (a .block)) (isOffset (x .config) (a .offset)) (range .0) .0);
-      entries = eqb-true entries (storeLength (x .config) .0) (yes-at 0 qs refl e);
-      extent = leb-true end (adusPerBlock (x .config) .0) (both (leb end (x .block .written .0)) (leb end (adusPerBlock (x .config) .0)) (yes-at 7 qs refl e) .1);
-      words = leb-true (count .0) room (yes-at 4 qs refl e);
-      fits = yes-at 5 qs refl e;
+      entries = eqb-true entries (storeLength (x .config) .0) (yes-in 3 qs refl e);
+      extent = leb-true end (adusPerBlock (x .config) .0) (both (leb end (x .block .written .0)) (leb end (adusPerBlock (x .config) .0)) (yes-in 15 qs refl e) .1);
+      words = leb-true (count .0) room (yes-in 7 qs refl e);
+      fits = yes-in 8 qs refl e;
     }
 
 -- A no before question 16 stays.
 pub read-no : (v : Drive) (words bytes : List ℕ) (d address : ℕ) (count : Adus) (expected : ℕ) (reason : Refusal) → sound (v .table) ≡ true
-    → numberOf reason ≡ firstNo (take 8 (drop 1 (questions v (lengthsOf v words bytes) (Read d address count expected))))
-    → Serves v (Read d address count expected) words bytes (served (refusing (v .table) reason) (v .store) words bytes)
+    → numberOf reason ≡ firstNo (before 16 (after 2 (questions v (calling (Read d address count expected) (v .store) words bytes))))
+    → Serves v (calling (Read d address count expected) (v .store) words bytes) words bytes (served (refusing (v .table) reason) (v .store) words bytes)
 read-no v words bytes d address count expected reason whole e =
-    let lent = lengthsOf v words bytes in
-    let k = Read d address count expected in
-    let rest = firstNo (drop 8 (drop 1 (questions v lent k))) in
-    later-no v k words bytes reason whole
-    (sym (two-parts v lent k 8 ∙ ap (λ (x : ℕ). thenNumber x rest) (sym e) ∙ first-stays reason rest))
+    let call = calling (Read d address count expected) (v .store) words bytes in
+    later-no v call words bytes reason whole (first-part v call 16 reason e)
 
 module _ (v : Drive) (words bytes : List ℕ) (d address : ℕ) (count : Adus) (expected : ℕ) (whole : sound (v .table) ≡ true)
-    (e : firstNo (take 8 (drop 1 (questions v (lengthsOf v words bytes) (Read d address count expected)))) ≡ 0) where
+    (e : firstNo (before 16 (after 2 (questions v (calling (Read d address count expected) (v .store) words bytes)))) ≡ 0) where
   -- Without one, question 16 alone is left.
-  last-question : firstNo (drop 1 (questions v (lengthsOf v words bytes) (Read d address count expected)))
-      ≡ firstNo (drop 8 (drop 1 (questions v (lengthsOf v words bytes) (Read d address count expected))))
-  unfolding thenNumber
-  last-question =
-      let lent = lengthsOf v words bytes in
-      let k = Read d address count expected in
-      two-parts v lent k 8 ∙ ap (λ (x : ℕ). thenNumber x (firstNo (drop 8 (drop 1 (questions v lent k))))) e
+  last-question : firstNo (after 2 (questions v (calling (Read d address count expected) (v .store) words bytes)))
+      ≡ firstNo (from 16 (after 2 (questions v (calling (Read d address count expected) (v .store) words bytes))))
+  last-question = second-part v (calling (Read d address count expected) (v .store) words bytes) 16 e
 
   -- Where the stretch matches it is what a Read hands back, and else the Read is refused.
   pub stretch-read : (answer : Answer) (filled : List ℕ)
       → ReadsStretch expected (stored v (fieldsOf (v .table .config) address) (count .0)) words answer filled
-      → Serves v (Read d address count expected) words bytes (served (answering (v .table) answer) (v .store) filled bytes)
+      → Serves v (calling (Read d address count expected) (v .store) words bytes) words bytes (served (answering (v .table) answer) (v .store) filled bytes)
   unfolding questions firstNo effect
   stretch-read answer filled r =
-      let k = Read d address count expected in
+      let call = calling (Read d address count expected) (v .store) words bytes in
       let stretch = stored v (fieldsOf (v .table .config) address) (count .0) in
       by-test (matches expected stretch)
       (λ m. let says : answer ≡ Done = r .answers ∙ rw m in
       let fills : filled ≡ overwritten 0 stretch words = r .fills ∙ rw m in
       rw (says, fills)
-      (accepted-call v k words bytes (served (answering (v .table) Done) (v .store) (overwritten 0 stretch words) bytes) []
-      (sound-verdict v (lengthsOf v words bytes) k whole ∙ last-question ∙ rw m)
+      (accepted-call v call words bytes (served (answering (v .table) Done) (v .store) (overwritten 0 stretch words) bytes) []
+      (sound-verdict v call whole ∙ last-question ∙ rw m)
       refl refl refl refl (sym (overwritten-nothing bytes))))
       (λ m. let says : answer ≡ Refused Mismatch = r .answers ∙ rw m in
       let fills : filled ≡ words = r .fills ∙ rw m in
-      rw (says, fills) (later-no v k words bytes Mismatch whole (sym (last-question ∙ rw m))))
+      rw (says, fills) (later-no v call words bytes Mismatch whole (sym (last-question ∙ rw m))))

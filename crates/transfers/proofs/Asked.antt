@@ -5,7 +5,6 @@ use mathlib.Core.List.{List, _++_}
 use mathlib.Core.Path.{_≡_, sym, _∙_}
 use native.Mathlib.Omega.{arith}
 use lib.Dec.{leb}
-use lib.ListN.{drop, take}
 use borrow.Author.Tests.{le-leb, leb-true, ltb-true}
 use Rattle.geometry.proofs.Laws.Shape.{by-test}
 use Rattle.geometry.specs.Address.{fieldsOf, isBlock}
@@ -14,22 +13,23 @@ use Rattle.geometry.specs.Shape.{adusPerBlock}
 use Rattle.geometry.specs.declared.shape.Adus.{Adus}
 use Rattle.model.specs.declared.command.Command.the-variants.{Read, WriteByBlock}
 use Rattle.model.specs.declared.table.Table.{Table}
+use Rattle.rules.proofs.Kept.Facts.{written-most}
 use Rattle.rules.proofs.Kept.Tested.{facts-of}
-use Rattle.rules.proofs.Noninterference.Reads.{written-most}
+use Rattle.rules.proofs.Questions.{after, before}
+use Rattle.rules.specs.Calls.{lending}
 use Rattle.rules.specs.Drive.{blockAt, size}
 use Rattle.rules.specs.Questions.{questions}
 use Rattle.rules.specs.Soundness.{sound}
 use Rattle.survey.specs.Sight.{Sees, SeesBlock}
 use Rattle.survey.specs.declared.sight.Sight.{Sight}
 use Rattle.tables.specs.Serving.{drive}
-use Rattle.tables.specs.Verdicts.{lending}
 use Rattle.transfers.specs.Transfers.{readArguments, readState, writeArguments, writeState}
 
 -- The record that is seen is that of a block of the drive; of another number the range is asked first.
 pub write-asked : (t : Table) (store : List ℕ) (entries room bytes d n start : ℕ) (count : Adus) (x : Sight)
     → Sees t d x → SeesBlock t n x → x .sound ≡ true
     → firstNo (writeArguments x entries room d n count ++ writeState x d start count)
-    ≡ firstNo (drop 1 (questions (drive t store) (lending entries room bytes) (WriteByBlock d n start count)))
+    ≡ firstNo (after 2 (questions (drive t store) (lending (WriteByBlock d n start count) entries room bytes)))
 unfolding firstNo questions writeArguments writeState
 write-asked t store entries room bytes d n start count x s b e =
     rw (s .same-domain, s .same-config) (by-test (isBlock (t .config) n)
@@ -48,7 +48,7 @@ ends-inside t store n end whole l =
 pub read-asked : (t : Table) (store : List ℕ) (entries room bytes d address : ℕ) (count : Adus) (expected : ℕ) (x : Sight)
     → Sees t d x → SeesBlock t (fieldsOf (t .config) address .block) x → x .sound ≡ true
     → firstNo (readArguments x entries room d (fieldsOf (t .config) address) count ++ readState x d (fieldsOf (t .config) address) count expected)
-    ≡ firstNo (take 8 (drop 1 (questions (drive t store) (lending entries room bytes) (Read d address count expected))))
+    ≡ firstNo (before 16 (after 2 (questions (drive t store) (lending (Read d address count expected) entries room bytes))))
 unfolding firstNo questions readArguments readState
 read-asked t store entries room bytes d address count expected x s b e =
     let a = fieldsOf (t .config) address in

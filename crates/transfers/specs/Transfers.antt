@@ -61,11 +61,11 @@ readState x d a count expected =
 -- ---- Writes
 
 -- What writing so many ADUs into a block needs, whose record is b, of a drive with so many entries in its store.
-pub record MayWriteIn (c : Config) (length d n : ℕ) (b : Block) (count : ℕ) : Type 0 where
+pub record MayWriteIn (c : Config) (storeSize d n : ℕ) (b : Block) (count : ℕ) : Type 0 where
   pub limits : withinLimits c ≡ true
   pub id : isDomainId d ≡ true
   pub inside : n < c .blocks
-  pub entries : length ≡ storeLength c .0
+  pub entries : storeSize ≡ storeLength c .0
   pub some-written : 1 ≤ count
   pub fits : b .written .0 + count ≤ adusPerBlock c .0
 

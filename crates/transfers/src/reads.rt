@@ -26,10 +26,9 @@ ghost use Rattle.geometry.specs.Questions.{firstNo};
 ghost use Rattle.geometry.specs.Shape.{withinLimits};
 ghost use Rattle.model.specs.declared.command.Command.the-variants.{Read};
 ghost use Rattle.model.specs.declared.table.Table.{Table};
-ghost use Rattle.rules.specs.Effects.{Serves};
 ghost use Rattle.rules.specs.Questions.{isCount, userAddressesFit};
 ghost use Rattle.survey.specs.Sight.{Seen, Sees, SeesBlock};
-ghost use Rattle.tables.specs.Serving.{answering, drive, served};
+ghost use Rattle.tables.specs.Serving.{ServesCommand, answering, served};
 ghost use Rattle.tables.specs.Verdicts.{verdictNumber};
 ghost use Rattle.transfers.specs.Transfers.{ReadsStretch, readArguments, readState};
 
@@ -119,7 +118,7 @@ pub fn read(
     words: &mut [u64],
 ) -> Answer
     requires { ⌜ Seen domain sight ⌝ }
-    ensures { λ r. ⌜ ((t : Table) (bytes : List ℕ) → Sees t domain sight → SeesBlock t (fieldsOf (t .config) address .block) sight → Serves (drive t (now (store .entry))) (Read domain address count expected) (now (words .entry)) bytes (served (answering t r) (now (store .entry)) (now (words .exit)) bytes)) ⌝ }
+    ensures { λ r. ⌜ ((t : Table) (bytes : List ℕ) → Sees t domain sight → SeesBlock t (fieldsOf (t .config) address .block) sight → ServesCommand t (Read domain address count expected) (now (store .entry)) (now (words .entry)) bytes (served (answering t r) (now (store .entry)) (now (words .exit)) bytes)) ⌝ }
 {
     if !sight.sound {
         return Answer::Refused(Refusal::Unsound);

@@ -36,11 +36,10 @@ ghost use Rattle.model.specs.declared.command.Command.the-variants.{WriteByBloc
 ghost use Rattle.model.specs.declared.table.Table.{Table};
 ghost use Rattle.rules.specs.Blocks.{userAddresses, writtenInto};
 ghost use Rattle.rules.specs.Drive.{blockAt, overwritten, withBlock};
-ghost use Rattle.rules.specs.Effects.{Serves};
 ghost use Rattle.rules.specs.Questions.{isCount, userAddressesFit};
 ghost use Rattle.survey.specs.Sight.{Seen, Sees, SeesBlock};
 ghost use Rattle.tables.specs.Changing.{outcomeServed};
-ghost use Rattle.tables.specs.Serving.{drive, served};
+ghost use Rattle.tables.specs.Serving.{ServesCommand, drive, served};
 ghost use Rattle.tables.specs.Verdicts.{verdictNumber};
 ghost use Rattle.transfers.specs.Transfers.{MayWriteIn, Wrote, addressIn, writeArguments, writeState};
 
@@ -162,7 +161,7 @@ pub fn write_by_block(
     words: &mut [u64],
 ) -> Outcome
     requires { ⌜ Seen domain sight ⌝ }
-    ensures { λ r. ⌜ ((t : Table) (bytes : List ℕ) → Sees t domain sight → SeesBlock t block sight → Serves (drive t (now (store .entry))) (WriteByBlock domain block start count) (now (words .entry)) bytes (served (outcomeServed t r) (now (store .exit)) (now (words .exit)) bytes)) ⌝ }
+    ensures { λ r. ⌜ ((t : Table) (bytes : List ℕ) → Sees t domain sight → SeesBlock t block sight → ServesCommand t (WriteByBlock domain block start count) (now (store .entry)) (now (words .entry)) bytes (served (outcomeServed t r) (now (store .exit)) (now (words .exit)) bytes)) ⌝ }
 {
     if !sight.sound {
         return refusal(Refusal::Unsound);

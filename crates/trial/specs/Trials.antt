@@ -10,9 +10,8 @@ use Rattle.model.specs.Answers.{outcomeOf}
 use Rattle.model.specs.declared.answer.Answer.{Answer}
 use Rattle.model.specs.declared.command.Command.{Command}
 use Rattle.model.specs.declared.table.Table.{Table}
-use Rattle.rules.specs.Effects.{Serves}
 use Rattle.rules.specs.Start.{started}
-use Rattle.tables.specs.Serving.{answering, drive, served}
+use Rattle.tables.specs.Serving.{ServesCommand, answering, served}
 use Rattle.trial.specs.Commands.{answerNumber, commandIn}
 use Rattle.trial.specs.Rows.{rowLength, tableIn, withTable}
 
@@ -40,7 +39,7 @@ pub record StartTried (c : Config) (number : ℕ) (before after : List ℕ) : Ty
 
 -- One command on a table: what `serve` may hand back.
 pub record Call (c : Command) (t : Table) (before : Lent) (answer : Answer) (u : Table) (after : Lent) : Type 0 where
-  pub serves : Serves (drive t (before .store)) c (before .words) (before .bytes)
+  pub serves : ServesCommand t c (before .store) (before .words) (before .bytes)
       (served (answering u answer) (after .store) (after .words) (after .bytes))
   pub same-row : after .row ≡ before .row
 

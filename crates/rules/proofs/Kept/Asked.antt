@@ -11,9 +11,10 @@ use Rattle.geometry.specs.declared.shape.Adus.{Adus}
 use Rattle.model.specs.declared.command.Command.the-variants.{Close, Free, WriteByBlock, WriteByPlacement}
 use Rattle.model.specs.declared.table.Table.{Table}
 use Rattle.rules.specs.Blocks.{newBlocks, userAddress, userAddresses}
+use Rattle.rules.specs.Calls.{Call, _asking_}
 use Rattle.rules.specs.Drive.{Drive, blockAt, domainAt, heldCount, size}
 use Rattle.rules.specs.Effects.{effect, verdict}
-use Rattle.rules.specs.Questions.{Lengths, isCount, questions}
+use Rattle.rules.specs.Questions.{isCount, questions}
 use Rattle.rules.proofs.Counting.{length-row}
 use Rattle.rules.proofs.Kept.Changes.{HeldBlock, Writable, closed-sequel, freed-sequel, written-sequel}
 use Rattle.rules.proofs.Kept.Facts.{coverageWith}
@@ -22,77 +23,77 @@ use Rattle.rules.proofs.Kept.Placement.{Asked, placement-sequel}
 use Rattle.rules.proofs.Kept.Sequel.{OwnSequel}
 use Rattle.rules.proofs.Questions.{answered-yes}
 
-module _ (v : Drive) (lent : Lengths) (fit : Fit v lent) where
+module _ (v : Drive) (call : Call) (fit : Fit v call) where
   abbrev t : Table
   t = v .table
 
-  pub close-asked : (d n : ℕ) → verdict v lent (Close d n) ≡ 0 → HeldBlock d n v
+  pub close-asked : (d n : ℕ) → verdict v (call asking Close d n) ≡ 0 → HeldBlock d n v
   unfolding questions
   close-asked d n e = record {
-    low = is-between 1 16 d (answered-yes v lent (Close d n) 1 e) .least;
-    inside = ltb-true n (size t) (answered-yes v lent (Close d n) 3 e);
+    low = is-between 1 16 d (answered-yes v (call asking Close d n) 4 e) .least;
+    inside = ltb-true n (size t) (answered-yes v (call asking Close d n) 6 e);
     whole = fit-blocks fit;
-    held = answered-yes v lent (Close d n) 4 e;
+    held = answered-yes v (call asking Close d n) 9 e;
   }
 
-  pub free-asked : (d n : ℕ) → verdict v lent (Free d n) ≡ 0 → HeldBlock d n v
+  pub free-asked : (d n : ℕ) → verdict v (call asking Free d n) ≡ 0 → HeldBlock d n v
   unfolding questions
   free-asked d n e = record {
-    low = is-between 1 16 d (answered-yes v lent (Free d n) 1 e) .least;
-    inside = ltb-true n (size t) (answered-yes v lent (Free d n) 3 e);
+    low = is-between 1 16 d (answered-yes v (call asking Free d n) 4 e) .least;
+    inside = ltb-true n (size t) (answered-yes v (call asking Free d n) 6 e);
     whole = fit-blocks fit;
-    held = answered-yes v lent (Free d n) 4 e;
+    held = answered-yes v (call asking Free d n) 9 e;
   }
 
-  pub close-sequel : (d n : ℕ) → verdict v lent (Close d n) ≡ 0 → OwnSequel d v (effect (Close d n) v .drive)
+  pub close-sequel : (d n : ℕ) → verdict v (call asking Close d n) ≡ 0 → OwnSequel d v (effect v (call asking Close d n) .drive)
   unfolding effect
   close-sequel d n e = closed-sequel (close-asked d n e) (fit .facts)
 
-  pub free-sequel : (d n : ℕ) → verdict v lent (Free d n) ≡ 0 → OwnSequel d v (effect (Free d n) v .drive)
+  pub free-sequel : (d n : ℕ) → verdict v (call asking Free d n) ≡ 0 → OwnSequel d v (effect v (call asking Free d n) .drive)
   unfolding effect
   free-sequel d n e = freed-sequel (free-asked d n e) (fit .facts)
 
-  pub block-asked : (d n start : ℕ) (count : Adus) → verdict v lent (WriteByBlock d n start count) ≡ 0
+  pub block-asked : (d n start : ℕ) (count : Adus) → verdict v (call asking WriteByBlock d n start count) ≡ 0
       → Writable d n (userAddresses start (count .0)) v
   unfolding questions
   block-asked d n start count e =
       let c = WriteByBlock d n start count in
       record {
-        low = is-between 1 16 d (answered-yes v lent c 2 e) .least;
-        ready = fit-ready fit (answered-yes v lent c 1 e);
-        inside = ltb-true n (size t) (both (isBlock (t .config) n) (isCount count) (answered-yes v lent c 4 e) .0);
-        held = answered-yes v lent c 7 e;
+        low = is-between 1 16 d (answered-yes v (call asking c) 4 e) .least;
+        ready = fit-ready fit (answered-yes v (call asking c) 3 e);
+        inside = ltb-true n (size t) (both (isBlock (t .config) n) (isCount count) (answered-yes v (call asking c) 6 e) .0);
+        held = answered-yes v (call asking c) 9 e;
         fits =
             rw length-row
-            (leb-true (blockAt t n .written .0 + count .0) (adusPerBlock (t .config) .0) (answered-yes v lent c 9 e));
+            (leb-true (blockAt t n .written .0 + count .0) (adusPerBlock (t .config) .0) (answered-yes v (call asking c) 15 e));
       }
 
-  pub block-sequel : (d n start : ℕ) (count : Adus) → verdict v lent (WriteByBlock d n start count) ≡ 0
-      → OwnSequel d v (effect (WriteByBlock d n start count) v .drive)
+  pub block-sequel : (d n start : ℕ) (count : Adus) → verdict v (call asking WriteByBlock d n start count) ≡ 0
+      → OwnSequel d v (effect v (call asking WriteByBlock d n start count) .drive)
   unfolding effect
   block-sequel d n start count e = written-sequel (block-asked d n start count e) (fit .facts)
 
-  pub placement-asked : (d p start : ℕ) (count : Adus) → verdict v lent (WriteByPlacement d p start count) ≡ 0
+  pub placement-asked : (d p start : ℕ) (count : Adus) → verdict v (call asking WriteByPlacement d p start count) ≡ 0
       → Asked d p (userAddresses start (count .0)) v
   unfolding questions
   placement-asked d p start count e =
       let c = WriteByPlacement d p start count in
-      let id = is-between 1 16 d (answered-yes v lent c 2 e) in
+      let id = is-between 1 16 d (answered-yes v (call asking c) 4 e) in
       let many : length (userAddresses start (count .0)) ≡ count .0 = length-row (userAddress start) (count .0) in
       record {
         low = id .least;
         high = id .most;
         facts = fit .facts;
-        ready = fit-ready fit (answered-yes v lent c 1 e);
+        ready = fit-ready fit (answered-yes v (call asking c) 3 e);
         domains = fit .shaped .domains;
-        exists = answered-yes v lent c 3 e;
-        placement = ltb-true p (domainAt t d .placements) (both (ltb p (domainAt t d .placements)) (isCount count) (answered-yes v lent c 4 e) .0);
-        may-open = answered-yes v lent c 7 e;
-        quota = rw many (leb-true (heldCount t d + newBlocks t d p (count .0)) (domainAt t d .quota) (answered-yes v lent c 9 e));
-        covers = rw many (leb-true (coverageWith t d (heldCount t d + newBlocks t d p (count .0))) (size t) (answered-yes v lent c 10 e));
+        exists = answered-yes v (call asking c) 5 e;
+        placement = ltb-true p (domainAt t d .placements) (both (ltb p (domainAt t d .placements)) (isCount count) (answered-yes v (call asking c) 6 e) .0);
+        may-open = answered-yes v (call asking c) 11 e;
+        quota = rw many (leb-true (heldCount t d + newBlocks t d p (count .0)) (domainAt t d .quota) (answered-yes v (call asking c) 13 e));
+        covers = rw many (leb-true (coverageWith t d (heldCount t d + newBlocks t d p (count .0))) (size t) (answered-yes v (call asking c) 14 e));
       }
 
-  pub written-placement-sequel : (d p start : ℕ) (count : Adus) → verdict v lent (WriteByPlacement d p start count) ≡ 0
-      → OwnSequel d v (effect (WriteByPlacement d p start count) v .drive)
+  pub written-placement-sequel : (d p start : ℕ) (count : Adus) → verdict v (call asking WriteByPlacement d p start count) ≡ 0
+      → OwnSequel d v (effect v (call asking WriteByPlacement d p start count) .drive)
   unfolding effect
   written-placement-sequel d p start count e = placement-sequel (placement-asked d p start count e)

@@ -14,12 +14,12 @@ use Rattle.model.specs.declared.command.Command.{Command}
 use Rattle.model.specs.declared.command.Command.the-variants.{ChangeCapacity, Close, Create, Delete, Erase, Free, List as Listing, Page, Pulse, Read}
 use Rattle.model.specs.declared.command.Command.the-variants.{WriteByBlock, WriteByPlacement}
 use Rattle.rules.specs.Blocks.{anyBlock, chosenBlock, newBlocks, userAddress}
+use Rattle.rules.specs.Calls.{Call, Own, _asking_, domainOf, existing, isNobodys, isPulse, missing, nobody, ownDomain, profile}
 use Rattle.rules.specs.Claims.{LentOwn, Shaped, StillSound}
 use Rattle.rules.specs.Drive.{Drive, heldCount}
-use Rattle.rules.specs.Effects.{accepted, driveAfter, effect, verdict, wordsFilled}
-use Rattle.rules.specs.Observation.{isPulse}
-use Rattle.rules.specs.Questions.{Lengths, questions}
-use Rattle.rules.specs.Runs.{Call, ownDomain, run, step}
+use Rattle.rules.specs.Effects.{accepted, effect, step, verdict, wordsFilled}
+use Rattle.rules.specs.Questions.{questions}
+use Rattle.rules.specs.Runs.{run}
 use Rattle.rules.specs.Soundness.{sound}
 use Rattle.rules.proofs.Counting.{length-row}
 use Rattle.rules.proofs.Kept.Asked.{block-sequel, close-sequel, free-sequel, placement-asked, written-placement-sequel}
@@ -33,85 +33,90 @@ use Rattle.rules.proofs.Kept.Sweeps.{deleted, pulsed-sequel}
 use Rattle.rules.proofs.Kept.Tested.{facts-of, facts-sound}
 use Rattle.rules.proofs.Questions.{answered-yes}
 
-module _ (v : Drive) (lent : Lengths) (fit : Fit v lent) where
-  effect-sequel : (c : Command) → isPulse c ≡ false → verdict v lent c ≡ 0 → OwnSequel (ownDomain c) v (effect c v .drive)
+-- What a command leaves: a sequel, which no domain but its own can tell; a pulse, which is nobody's own, every domain can tell.
+abbrev Leaves : Own → Drive → Drive → Type 0
+Leaves (existing d) v w = OwnSequel d v w
+Leaves (missing d) v w = OwnSequel d v w
+Leaves nobody v w = Sequel v w
+
+leaves-sequel : (own : Own) {v w : Drive} → Leaves own v w → Sequel v w
+leaves-sequel (existing d) s = s .sequel
+leaves-sequel (missing d) s = s .sequel
+leaves-sequel nobody s = s
+
+leaves-own : (own : Own) {v w : Drive} → isNobodys own ≡ false → Leaves own v w → OwnSequel (domainOf own) v w
+leaves-own (existing d) e s = s
+leaves-own (missing d) e s = s
+leaves-own nobody e s = absurd (true≢false e)
+
+leaves-same : (own : Own) (v : Drive) → Facts v → Leaves own v v
+leaves-same (existing d) v f = same-sequel d v f
+leaves-same (missing d) v f = same-sequel d v f
+leaves-same nobody v f = same-sequel 0 v f .sequel
+
+module _ (v : Drive) (call : Call) (fit : Fit v call) where
+  effect-leaves : (c : Command) → verdict v (call asking c) ≡ 0 → Leaves (profile c .own) v (effect v (call asking c) .drive)
   unfolding effect
-  effect-sequel (Create d guarantee quota placements limit) p e =
-      created v lent (fit .facts) (fit .shaped .domains) d guarantee quota placements limit e .0
-  effect-sequel (ChangeCapacity d guarantee quota) p e = changed v lent (fit .facts) (fit .shaped .domains) d guarantee quota e .0
-  effect-sequel (Delete d) p e = deleted v lent (fit .facts) (fit .shaped .domains) d e
-  effect-sequel (Erase d n) p e = erase-sequel v lent fit d n e
-  effect-sequel (Close d n) p e = close-sequel v lent fit d n e
-  effect-sequel (Free d n) p e = free-sequel v lent fit d n e
-  effect-sequel (WriteByPlacement d k start count) p e = written-placement-sequel v lent fit d k start count e
-  effect-sequel (WriteByBlock d n start count) p e = block-sequel v lent fit d n start count e
-  effect-sequel (Read d address count expected) p e = same-sequel d v (fit .facts)
-  effect-sequel (Page d n) p e = same-sequel d v (fit .facts)
-  effect-sequel (Listing d which) p e = same-sequel d v (fit .facts)
-  effect-sequel (Pulse seconds) p e = absurd (true≢false p)
+  effect-leaves (Create d guarantee quota placements limit) e =
+      created v call (fit .facts) (fit .shaped .domains) d guarantee quota placements limit e .0
+  effect-leaves (ChangeCapacity d guarantee quota) e = changed v call (fit .facts) (fit .shaped .domains) d guarantee quota e .0
+  effect-leaves (Delete d) e = deleted v call (fit .facts) (fit .shaped .domains) d e
+  effect-leaves (Erase d n) e = erase-sequel v call fit d n e
+  effect-leaves (Close d n) e = close-sequel v call fit d n e
+  effect-leaves (Free d n) e = free-sequel v call fit d n e
+  effect-leaves (WriteByPlacement d k start count) e = written-placement-sequel v call fit d k start count e
+  effect-leaves (WriteByBlock d n start count) e = block-sequel v call fit d n start count e
+  effect-leaves (Read d address count expected) e = same-sequel d v (fit .facts)
+  effect-leaves (Page d n) e = same-sequel d v (fit .facts)
+  effect-leaves (Listing d which) e = same-sequel d v (fit .facts)
+  effect-leaves (Pulse seconds) e = pulsed-sequel v call (fit .facts) (fit .shaped .domains) seconds
 
-  -- A call that is no pulse, accepted or refused, ..
-  pub own-sequel : (c : Command) → isPulse c ≡ false → OwnSequel (ownDomain c) v (driveAfter v lent c)
-  unfolding driveAfter
-  own-sequel c p =
-      by-test (accepted v lent c)
-      (λ e. rw e (effect-sequel c p (eqb-true (verdict v lent c) 0 e)))
-      (λ e. rw e (same-sequel (ownDomain c) v (fit .facts)))
+  -- So does a call, accepted or refused.
+  call-leaves : Leaves (profile (call .command) .own) v (step call v)
+  unfolding step
+  call-leaves =
+      by-test (accepted v call)
+      (λ e. rw e (effect-leaves (call .command) (eqb-true (verdict v call) 0 e)))
+      (λ e. rw e (leaves-same (profile (call .command) .own) v (fit .facts)))
 
-  pulse-sequel : (seconds : ℕ) → Sequel v (driveAfter v lent (Pulse seconds))
-  unfolding driveAfter
-  pulse-sequel seconds =
-      by-test (accepted v lent (Pulse seconds))
-      (λ e. rw e (pulsed-sequel v lent (fit .facts) (fit .shaped .domains) seconds))
-      (λ e. rw e (same-sequel 0 v (fit .facts) .sequel))
+  pub call-sequel : Sequel v (step call v)
+  call-sequel = leaves-sequel (profile (call .command) .own) call-leaves
 
-  -- .. and any call.
-  pub call-sequel : (c : Command) → Sequel v (driveAfter v lent c)
-  call-sequel (Create d guarantee quota placements limit) = own-sequel (Create d guarantee quota placements limit) refl .sequel
-  call-sequel (ChangeCapacity d guarantee quota) = own-sequel (ChangeCapacity d guarantee quota) refl .sequel
-  call-sequel (Delete d) = own-sequel (Delete d) refl .sequel
-  call-sequel (Erase d n) = own-sequel (Erase d n) refl .sequel
-  call-sequel (Close d n) = own-sequel (Close d n) refl .sequel
-  call-sequel (Free d n) = own-sequel (Free d n) refl .sequel
-  call-sequel (WriteByPlacement d k start count) = own-sequel (WriteByPlacement d k start count) refl .sequel
-  call-sequel (WriteByBlock d n start count) = own-sequel (WriteByBlock d n start count) refl .sequel
-  call-sequel (Read d address count expected) = own-sequel (Read d address count expected) refl .sequel
-  call-sequel (Page d n) = own-sequel (Page d n) refl .sequel
-  call-sequel (Listing d which) = own-sequel (Listing d which) refl .sequel
-  call-sequel (Pulse seconds) = pulse-sequel seconds
+  pub own-sequel : isPulse (call .command) ≡ false → OwnSequel (ownDomain (call .command)) v (step call v)
+  own-sequel p = leaves-own (profile (call .command) .own) p call-leaves
 
 -- ---- One call, in terms of the test
 
-module _ (v : Drive) (lent : Lengths) (shaped : Shaped (v .table)) (own : LentOwn v lent) where
-  fit-of : sound (v .table) ≡ true → Fit v lent
+module _ (v : Drive) (call : Call) (shaped : Shaped (v .table)) (own : LentOwn v call) where
+  fit-of : sound (v .table) ≡ true → Fit v call
   fit-of e = record { facts = facts-of v e; shaped = shaped; own = own }
 
-  pub sound-kept : (c : Command) → sound (v .table) ≡ true → StillSound v (driveAfter v lent c)
-  sound-kept c e =
-      let s = call-sequel v lent (fit-of e) c in
+  pub sound-kept : sound (v .table) ≡ true → StillSound v (step call v)
+  sound-kept e =
+      let s = call-sequel v call (fit-of e) in
       record {
-        still-sound = facts-sound (driveAfter v lent c) (s .facts);
+        still-sound = facts-sound (step call v) (s .facts);
         still-shaped = record { domains = s .domains ∙ shaped .domains; blocks = s .blocks ∙ shaped .blocks };
         same-length = s .store;
       }
 
   -- There is a Free block for each block that is opened.
-  pub erase-finds : (d : ℕ) → verdict v lent (Erase d anyBlock) ≡ 0 → (n : ℕ) × (chosenBlock (v .table) ≡ some n)
+  pub erase-finds : (d : ℕ) → verdict v (call asking Erase d anyBlock) ≡ 0 → (n : ℕ) × (chosenBlock (v .table) ≡ some n)
   unfolding questions
   erase-finds d e =
       let c = Erase d anyBlock in
-      let x = any-opens v lent (fit-of (answered-yes v lent c 0 e)) d anyBlock e refl in (x .0, x .1)
+      let x = any-opens v call (fit-of (answered-yes v (call asking c) 2 e)) d anyBlock e refl in (x .0, x .1)
 
   pub placement-opens : (d p start : ℕ) (count : Adus)
       → let c = WriteByPlacement d p start count in
-      verdict v lent c ≡ 0
-      → (length (wordsFilled v lent c) ≡ count .0)
-      × (heldCount (driveAfter v lent c .table) d ≡ heldCount (v .table) d + newBlocks (v .table) d p (count .0))
-  unfolding questions effect wordsFilled driveAfter
+      verdict v (call asking c) ≡ 0
+      → (length (wordsFilled v (call asking c)) ≡ count .0)
+      × (heldCount (step (call asking c) v .table) d ≡ heldCount (v .table) d + newBlocks (v .table) d p (count .0))
+  unfolding questions effect wordsFilled step
   placement-opens d p start count e =
       let c = WriteByPlacement d p start count in
       let many = length-row (userAddress start) (count .0) in
-      let x = placement-all (placement-asked v lent (fit-of (answered-yes v lent c 0 e)) d p start count e) in
+      let x = placement-all (placement-asked v call (fit-of (answered-yes v (call asking c) 2 e)) d p start count e) in
       rw e (x .0 ∙ many, x .1 ∙ ap (λ (n : ℕ). heldCount (v .table) d + newBlocks (v .table) d p n) many)
 
 -- ---- Whole lists
@@ -122,8 +127,8 @@ pub record Course (v : Drive) : Type 0 where
   pub shaped : Shaped (v .table)
   pub store : length (v .store) ≡ storeLength (v .table .config) .0
 
-pub course-fit : {v : Drive} → Course v → (lent : Lengths) → Fit v lent
-course-fit c lent = record { facts = c .facts; shaped = c .shaped; own = λ e. c .store }
+pub course-fit : {v : Drive} → Course v → (call : Call) → Fit v call
+course-fit c call = record { facts = c .facts; shaped = c .shaped; own = λ e. c .store }
 
 course-on : (v w : Drive) → Course v → Sequel v w → Course w
 course-on v w c s = record {
@@ -133,7 +138,7 @@ course-on v w c s = record {
 }
 
 pub course-step : (k : Call) (v : Drive) → Course v → Course (step k v)
-course-step k v c = course-on v (step k v) c (call-sequel v (k .lent) (course-fit c (k .lent)) (k .command))
+course-step k v c = course-on v (step k v) c (call-sequel v k (course-fit c k))
 
 pub course-run : (ks : List Call) (v : Drive) → Course v → Course (run ks v)
 unfolding run

@@ -14,11 +14,12 @@ use Rattle.geometry.specs.declared.shape.Planes.{Planes}
 use Rattle.model.specs.declared.command.Command.the-variants.{ChangeCapacity, Create}
 use Rattle.model.specs.declared.table.Domain.{Domain}
 use Rattle.model.specs.declared.table.Table.{Table}
+use Rattle.rules.specs.Calls.{Call, _asking_}
 use Rattle.rules.specs.Domains.{arePlaneCounts, changedDomain, coverage, coveredWith, createdDomain, instead, newBlockCount, openLimit, reservedBy}
 use Rattle.rules.specs.Drive.{Drive, blockAt, clearDomain, domainAt, heldBy, heldCount, isOpen, openCount, size, withDomain}
 use Rattle.rules.specs.Effects.{effect, verdict}
 use Rattle.rules.specs.Observation.{Holding, entriesOf}
-use Rattle.rules.specs.Questions.{Lengths, questions}
+use Rattle.rules.specs.Questions.{questions}
 use Rattle.rules.proofs.Counting.{by-eq, sum-le}
 use Rattle.rules.proofs.Domains.{changed-order}
 use Rattle.rules.proofs.Drive.{domain-other}
@@ -159,17 +160,17 @@ limit-fits placements limit p l =
     (λ e. rw e (ltb-false limit placements e, l))
 
 -- The record of a domain that was missing, and so held nothing.
-created-fit : (v : Drive) (lent : Lengths) (f : Facts v) (d : ℕ) (guarantee quota : Planes) (placements limit : ℕ)
+created-fit : (v : Drive) (call : Call) (f : Facts v) (d : ℕ) (guarantee quota : Planes) (placements limit : ℕ)
     → 1 ≤ d → d ≤ 16
-    → verdict v lent (Create d guarantee quota placements limit) ≡ 0
+    → verdict v (call asking Create d guarantee quota placements limit) ≡ 0
     → Fitting (v .table) d (createdDomain (v .table .config) guarantee quota placements limit)
 unfolding createdDomain questions
-created-fit v lent f d guarantee quota placements limit p few e =
+created-fit v call f d guarantee quota placements limit p few e =
     let c = Create d guarantee quota placements limit in
     let t = v .table in
-    let missing : domainAt t d .exists ≡ false = not-true (domainAt t d .exists) (answered-yes v lent c 2 e) in
+    let missing : domainAt t d .exists ≡ false = not-true (domainAt t d .exists) (answered-yes v (call asking c) 5 e) in
     let counts = arePlaneCounts (t .config) guarantee quota in
-    let h1 = both (counts && between 1 16 placements) (between 0 256 limit) (answered-yes v lent c 3 e) in
+    let h1 = both (counts && between 1 16 placements) (between 0 256 limit) (answered-yes v (call asking c) 6 e) in
     let h2 = both counts (between 1 16 placements) (h1 .0) in
     let most = drivePlanes (t .config) .0 in
     let h3 = both (leb (guarantee .0) most) (leb (quota .0) most) (h2 .0) in
@@ -195,7 +196,7 @@ created-fit v lent f d guarantee quota placements limit p few e =
         within = omega (arith, open-held t d);
       };
       grown = λ x. absurd (true≢false (sym x ∙ missing));
-      covers = answered-yes v lent c 4 e;
+      covers = answered-yes v (call asking c) 14 e;
     }
 
 -- ---- Change Capacity
@@ -207,18 +208,18 @@ count-fits : (c : Config) (n : Planes) (present : ℕ) → withinLimits c ≡ tr
 count-fits c n present l e p = by-test (eqb (n .0) 0) (λ z. rw z p) (λ z. rw z (blocks-fit c n l e))
 
 -- Placements, limit and last serial stay, and nothing is held beyond the quota.
-changed-fit : (v : Drive) (lent : Lengths) (f : Facts v) (d : ℕ) (guarantee quota : Planes) → 1 ≤ d → d ≤ 16
-    → verdict v lent (ChangeCapacity d guarantee quota) ≡ 0
+changed-fit : (v : Drive) (call : Call) (f : Facts v) (d : ℕ) (guarantee quota : Planes) → 1 ≤ d → d ≤ 16
+    → verdict v (call asking ChangeCapacity d guarantee quota) ≡ 0
     → Fitting (v .table) d (changedDomain (v .table) d guarantee quota)
 unfolding changedDomain questions
-changed-fit v lent f d guarantee quota p few e =
+changed-fit v call f d guarantee quota p few e =
     let c = ChangeCapacity d guarantee quota in
     let t = v .table in
     let r = domainAt t d in
     let most = drivePlanes (t .config) .0 in
-    let h = both (leb (guarantee .0) most) (leb (quota .0) most) (answered-yes v lent c 3 e) in
+    let h = both (leb (guarantee .0) most) (leb (quota .0) most) (answered-yes v (call asking c) 6 e) in
     let g = f .domains d p few in
-    let x = g .existing (answered-yes v lent c 2 e) in
+    let x = g .existing (answered-yes v (call asking c) 5 e) in
     let order = changed-order t d guarantee quota in
     record {
       order = order .0;
@@ -231,7 +232,7 @@ changed-fit v lent f d guarantee quota p few e =
             g .fits,
           );
       within = order .1;
-      exists = answered-yes v lent c 2 e;
+      exists = answered-yes v (call asking c) 5 e;
       existing = record {
         some-placement = x .some-placement;
         few-placements = x .few-placements;
@@ -240,33 +241,33 @@ changed-fit v lent f d guarantee quota p few e =
         within = x .within;
       };
       grown = λ y. record { exists = y; placements = refl; last = omega arith };
-      covers = answered-yes v lent c 4 e;
+      covers = answered-yes v (call asking c) 14 e;
     }
 
 -- ---- The commands
 
-module _ (v : Drive) (lent : Lengths) (f : Facts v) (whole : length (v .table .domains) ≡ 16) where
+module _ (v : Drive) (call : Call) (f : Facts v) (whole : length (v .table .domains) ≡ 16) where
   pub created : (d : ℕ) (guarantee quota : Planes) (placements limit : ℕ)
       → let c = Create d guarantee quota placements limit in
-      verdict v lent c ≡ 0
-      → OwnSequel d v (effect c v .drive)
-      × (domainAt (effect c v .drive .table) d ≡ createdDomain (v .table .config) guarantee quota placements limit)
-      × ((q : Holding → ℕ) → view q d (effect c v .drive) ≡ view q d v)
+      verdict v (call asking c) ≡ 0
+      → OwnSequel d v (effect v (call asking c) .drive)
+      × (domainAt (effect v (call asking c) .drive .table) d ≡ createdDomain (v .table .config) guarantee quota placements limit)
+      × ((q : Holding → ℕ) → view q d (effect v (call asking c) .drive) ≡ view q d v)
   unfolding effect questions
   created d guarantee quota placements limit e =
       let r = createdDomain (v .table .config) guarantee quota placements limit in
-      let id = is-between 1 16 d (answered-yes v lent (Create d guarantee quota placements limit) 1 e) in
+      let id = is-between 1 16 d (answered-yes v (call asking Create d guarantee quota placements limit) 4 e) in
       replaced-all v d r f whole (id .least) (id .most)
-      (created-fit v lent f d guarantee quota placements limit (id .least) (id .most) e)
+      (created-fit v call f d guarantee quota placements limit (id .least) (id .most) e)
 
   pub changed : (d : ℕ) (guarantee quota : Planes)
       → let c = ChangeCapacity d guarantee quota in
-      verdict v lent c ≡ 0
-      → OwnSequel d v (effect c v .drive)
-      × (domainAt (effect c v .drive .table) d ≡ changedDomain (v .table) d guarantee quota)
-      × ((q : Holding → ℕ) → view q d (effect c v .drive) ≡ view q d v)
+      verdict v (call asking c) ≡ 0
+      → OwnSequel d v (effect v (call asking c) .drive)
+      × (domainAt (effect v (call asking c) .drive .table) d ≡ changedDomain (v .table) d guarantee quota)
+      × ((q : Holding → ℕ) → view q d (effect v (call asking c) .drive) ≡ view q d v)
   unfolding effect questions
   changed d guarantee quota e =
       let r = changedDomain (v .table) d guarantee quota in
-      let id = is-between 1 16 d (answered-yes v lent (ChangeCapacity d guarantee quota) 1 e) in
-      replaced-all v d r f whole (id .least) (id .most) (changed-fit v lent f d guarantee quota (id .least) (id .most) e)
+      let id = is-between 1 16 d (answered-yes v (call asking ChangeCapacity d guarantee quota) 4 e) in
+      replaced-all v d r f whole (id .least) (id .most) (changed-fit v call f d guarantee quota (id .least) (id .most) e)

@@ -14,10 +14,11 @@ use Rattle.model.specs.declared.block.Way.the-variants as way
 use Rattle.model.specs.declared.command.Command.the-variants.{Erase}
 use Rattle.model.specs.declared.table.Table.{Table}
 use Rattle.rules.specs.Blocks.{anyBlock, chosenBlock, freedAt, openedFor}
+use Rattle.rules.specs.Calls.{Call, _asking_}
 use Rattle.rules.specs.Drive.{Drive, blockAt, domainAt, heldCount, isFree, openCount, size}
 use Rattle.rules.specs.Effects.{effect, verdict}
 use Rattle.rules.specs.Observation.{Holding, holdingAt}
-use Rattle.rules.specs.Questions.{Lengths, isHeld, newOfErase, questions}
+use Rattle.rules.specs.Questions.{isHeld, newOfErase, questions}
 use Rattle.rules.proofs.Blocks.{Choice, choice}
 use Rattle.rules.proofs.Counting.{the-first}
 use Rattle.rules.proofs.Kept.Changes.{HeldBlock, Openable, freed-changed, freed-facts, freed-found, freed-not-held, freed-sequel, opened-facts, opened-sequel, reopened}
@@ -48,7 +49,7 @@ the-middle true b c e f g = absurd (true≢false f)
 the-middle false true c e f g = refl
 the-middle false false c e f g = absurd (true≢false (sym e ∙ g))
 
-module _ (v : Drive) (lent : Lengths) (fit : Fit v lent) (d n : ℕ) (e : verdict v lent (Erase d n) ≡ 0) where
+module _ (v : Drive) (call : Call) (fit : Fit v call) (d n : ℕ) (e : verdict v (call asking Erase d n) ≡ 0) where
   abbrev t : Table
   t = v .table
 
@@ -56,37 +57,37 @@ module _ (v : Drive) (lent : Lengths) (fit : Fit v lent) (d n : ℕ) (e : verdic
   new-opens : (m : ℕ) → m < size t → blockAt t m .holder ≡ 0 → newOfErase t d n ≡ 1 → Opens d m v
   unfolding questions
   new-opens m l nobody adds =
-      let id = is-between 1 16 d (answered-yes v lent (Erase d n) 2 e) in
+      let id = is-between 1 16 d (answered-yes v (call asking Erase d n) 4 e) in
       record {
         block = record {
           low = id .least;
           high = id .most;
-          ready = fit-ready fit (answered-yes v lent (Erase d n) 1 e);
+          ready = fit-ready fit (answered-yes v (call asking Erase d n) 3 e);
           domains = fit .shaped .domains;
           inside = l;
           nobody = nobody;
         };
         facts = fit .facts;
-        exists = answered-yes v lent (Erase d n) 3 e;
+        exists = answered-yes v (call asking Erase d n) 5 e;
         quota =
             subst (λ (k : ℕ). heldCount t d + k ≤ domainAt t d .quota) adds
-            (leb-true (heldCount t d + newOfErase t d n) (domainAt t d .quota) (answered-yes v lent (Erase d n) 9 e));
+            (leb-true (heldCount t d + newOfErase t d n) (domainAt t d .quota) (answered-yes v (call asking Erase d n) 13 e));
         covers =
             subst (λ (k : ℕ). coverageWith t d (heldCount t d + k) ≤ size t) adds
-            (leb-true (coverageWith t d (heldCount t d + newOfErase t d n)) (size t) (answered-yes v lent (Erase d n) 10 e));
-        limit = ltb-true (openCount t d) (domainAt t d .limit) (answered-yes v lent (Erase d n) 7 e);
+            (leb-true (coverageWith t d (heldCount t d + newOfErase t d n)) (size t) (answered-yes v (call asking Erase d n) 14 e));
+        limit = ltb-true (openCount t d) (domainAt t d .limit) (answered-yes v (call asking Erase d n) 11 e);
       }
 
   -- Erase FFFFFFFFh opens the chosen block.
   pub any-opens : n ≡ anyBlock → (m : ℕ) × (chosenBlock t ≡ some m) × Opens d m v
   unfolding questions
   any-opens same =
-      let id = is-between 1 16 d (answered-yes v lent (Erase d n) 2 e) in
+      let id = is-between 1 16 d (answered-yes v (call asking Erase d n) 4 e) in
       let adds : newOfErase t d n ≡ 1 = rw (eq-eqb n anyBlock same) in
       let found =
       room-chosen v d 1 (fit .facts) (id .least) (id .most)
       (subst (λ (k : ℕ). coverageWith t d (heldCount t d + k) ≤ size t) adds
-      (leb-true (coverageWith t d (heldCount t d + newOfErase t d n)) (size t) (answered-yes v lent (Erase d n) 10 e)))
+      (leb-true (coverageWith t d (heldCount t d + newOfErase t d n)) (size t) (answered-yes v (call asking Erase d n) 14 e)))
       (omega arith) in
       let chosen = subst (Choice t (size t)) (found .1) (choice t (size t)) in
       let b = blockAt t (found .0) in (
@@ -99,7 +100,7 @@ module _ (v : Drive) (lent : Lengths) (fit : Fit v lent) (d n : ℕ) (e : verdic
   named-inside : eqb n anyBlock ≡ false → n < size t
   unfolding questions
   named-inside other =
-      ltb-true n (size t) (the-first (isBlock (t .config) n) (eqb n anyBlock) (answered-yes v lent (Erase d n) 4 e) other)
+      ltb-true n (size t) (the-first (isBlock (t .config) n) (eqb n anyBlock) (answered-yes v (call asking Erase d n) 6 e) other)
 
   -- Erase of the number of a Free block opens that.
   free-opens : eqb n anyBlock ≡ false → isHeld t d n ≡ false → Opens d n v
@@ -108,7 +109,7 @@ module _ (v : Drive) (lent : Lengths) (fit : Fit v lent) (d n : ℕ) (e : verdic
       let b = blockAt t n in
       let l = named-inside other in
       let free : isFree b ≡ true =
-      the-middle (eqb n anyBlock) (isFree b) (isHeld t d n) (answered-yes v lent (Erase d n) 5 e) other not-held in
+      the-middle (eqb n anyBlock) (isFree b) (isHeld t d n) (answered-yes v (call asking Erase d n) 9 e) other not-held in
       new-opens n l (free-nobody t (b .state) b free (fit .facts .blocks n l)) (rw (other, not-held))
 
   -- Erase of the number of a Closed block that the domain holds frees and opens it.
@@ -119,7 +120,7 @@ module _ (v : Drive) (lent : Lengths) (fit : Fit v lent) (d n : ℕ) (e : verdic
     again-held : HeldBlock d n v
     unfolding questions
     again-held = record {
-      low = is-between 1 16 d (answered-yes v lent (Erase d n) 2 e) .least;
+      low = is-between 1 16 d (answered-yes v (call asking Erase d n) 4 e) .least;
       inside = named-inside other;
       whole = fit-blocks fit;
       held = held;
@@ -136,8 +137,8 @@ module _ (v : Drive) (lent : Lengths) (fit : Fit v lent) (d n : ℕ) (e : verdic
     pub again-opens : Opens d n freeing
     unfolding questions
     again-opens =
-        let id = is-between 1 16 d (answered-yes v lent (Erase d n) 2 e) in
-        let ready = fit-ready fit (answered-yes v lent (Erase d n) 1 e) in
+        let id = is-between 1 16 d (answered-yes v (call asking Erase d n) 4 e) in
+        let ready = fit-ready fit (answered-yes v (call asking Erase d n) 3 e) in
         record {
           block = record {
             low = id .least;
@@ -148,7 +149,7 @@ module _ (v : Drive) (lent : Lengths) (fit : Fit v lent) (d n : ℕ) (e : verdic
             nobody = rw (freed-found again-held);
           };
           facts = freed-facts again-held (fit .facts);
-          exists = answered-yes v lent (Erase d n) 3 e;
+          exists = answered-yes v (call asking Erase d n) 5 e;
           quota = omega (arith, one-fewer, fit .facts .domains d (id .least) (id .most) .within);
           covers =
               omega (
@@ -164,7 +165,7 @@ module _ (v : Drive) (lent : Lengths) (fit : Fit v lent) (d n : ℕ) (e : verdic
                 open-view v d,
                 open-view freeing d,
                 fewer ifOpen,
-                ltb-true (openCount t d) (domainAt t d .limit) (answered-yes v lent (Erase d n) 7 e),
+                ltb-true (openCount t d) (domainAt t d .limit) (answered-yes v (call asking Erase d n) 11 e),
               );
         }
 
@@ -176,7 +177,7 @@ module _ (v : Drive) (lent : Lengths) (fit : Fit v lent) (d n : ℕ) (e : verdic
         subst (OwnSequel d v) again-is
         (sequel-then (freed-sequel again-held (fit .facts)) (opens-sequel again-opens))
 
-  pub erase-sequel : OwnSequel d v (effect (Erase d n) v .drive)
+  pub erase-sequel : OwnSequel d v (effect v (call asking Erase d n) .drive)
   unfolding effect
   erase-sequel =
       by-test (eqb n anyBlock)

@@ -12,11 +12,12 @@ use Rattle.model.specs.Blocks.{countedDown}
 use Rattle.model.specs.declared.command.Command.the-variants.{Delete, Pulse}
 use Rattle.model.specs.declared.table.Domain.{Domain}
 use Rattle.rules.specs.Blocks.{pulsed}
+use Rattle.rules.specs.Calls.{Call, _asking_}
 use Rattle.rules.specs.Domains.{coverage, deletedDomain, freedIfHeld, reservedBy}
 use Rattle.rules.specs.Drive.{Drive, blockAt, clearDomain, domainAt, heldBy, heldCount, openCount, size}
 use Rattle.rules.specs.Effects.{effect, verdict}
 use Rattle.rules.specs.Observation.{Holding, entriesOf, holdingAt}
-use Rattle.rules.specs.Questions.{Lengths, questions}
+use Rattle.rules.specs.Questions.{questions}
 use Rattle.rules.proofs.Counting.{by-eq, sum-le, sum-same}
 use Rattle.rules.proofs.Domains.{deleted-clear, deleted-holds-nothing}
 use Rattle.rules.proofs.Drive.{block-changed-below, domain-other}
@@ -221,12 +222,12 @@ module _ (v : Drive) (seconds : ℕ) where
 
 -- ---- The commands
 
-module _ (v : Drive) (lent : Lengths) (f : Facts v) (whole : length (v .table .domains) ≡ 16) where
-  pub deleted : (d : ℕ) → verdict v lent (Delete d) ≡ 0 → OwnSequel d v (effect (Delete d) v .drive)
+module _ (v : Drive) (call : Call) (f : Facts v) (whole : length (v .table .domains) ≡ 16) where
+  pub deleted : (d : ℕ) → verdict v (call asking Delete d) ≡ 0 → OwnSequel d v (effect v (call asking Delete d) .drive)
   unfolding effect questions
-  deleted d e = swept-sequel v d f (is-between 1 16 d (answered-yes v lent (Delete d) 1 e) .least)
+  deleted d e = swept-sequel v d f (is-between 1 16 d (answered-yes v (call asking Delete d) 4 e) .least)
 
-  pub pulsed-sequel : (seconds : ℕ) → Sequel v (effect (Pulse seconds) v .drive)
+  pub pulsed-sequel : (seconds : ℕ) → Sequel v (effect v (call asking Pulse seconds) .drive)
   unfolding effect
   pulsed-sequel seconds = record {
     facts = older-facts v seconds f;
@@ -236,12 +237,12 @@ module _ (v : Drive) (lent : Lengths) (f : Facts v) (whole : length (v .table .d
     store = refl;
   }
 
-  pub pulsed-view : (seconds a : ℕ) (q : Holding → ℕ) → view q a (effect (Pulse seconds) v .drive) ≡ view (λ h. q (aged seconds h)) a v
+  pub pulsed-view : (seconds a : ℕ) (q : Holding → ℕ) → view q a (effect v (call asking Pulse seconds) .drive) ≡ view (λ h. q (aged seconds h)) a v
   unfolding effect view
   pulsed-view seconds a q =
       sum-same (size (v .table)) _ _ (λ n l. rw (older-held v seconds a n l)
       (ap (λ (h : Holding). cond (heldBy a (blockAt (v .table) n)) (q h) 0) (older-holding v seconds n l)))
 
-  pub pulsed-domain : (seconds a : ℕ) → domainAt (effect (Pulse seconds) v .drive .table) a ≡ domainAt (v .table) a
+  pub pulsed-domain : (seconds a : ℕ) → domainAt (effect v (call asking Pulse seconds) .drive .table) a ≡ domainAt (v .table) a
   unfolding effect
   pulsed-domain seconds a = refl

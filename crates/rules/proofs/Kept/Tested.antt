@@ -7,7 +7,7 @@ use lib.Dec.{eqb, leb, ltb}
 use borrow.Author.Tests.{eq-eqb, eqb-true, le-leb, leb-true, lt-ltb, ltb-true, not-true}
 use Rattle.geometry.proofs.Laws.Shape.{both, by-test, is-between}
 use Rattle.geometry.specs.Address.{isDomainId}
-use Rattle.geometry.specs.Shape.{adusPerBlock, between}
+use Rattle.geometry.specs.Shape.{between}
 use Rattle.model.specs.declared.block.Block.{Block}
 use Rattle.model.specs.declared.block.State.{State}
 use Rattle.model.specs.declared.block.State.the-variants.{Closed, Free, Open}
@@ -18,9 +18,9 @@ use Rattle.rules.specs.Counting.{implies}
 use Rattle.rules.specs.Domains.{coverage, reservedBy}
 use Rattle.rules.specs.Drive.{Drive, blockAt, clearDomain, domainAt, eachDomain, heldBy, heldCount, isFree, isFreeState, isPlacedState, openCount, size}
 use Rattle.rules.specs.Observation.{Holding, holdingAt}
-use Rattle.rules.specs.Soundness.{countsKept, eachPair, freeIsClear, holderExists, missingIsClear, openLimitKept, placementExists, placementsDiffer, quotaKept, sameHolder, samePlacement, serialGiven, serialsDiffer, sound}
+use Rattle.rules.specs.Soundness.{blockSound, countsKept, domainSound, eachPair, freeIsClear, holderExists, missingIsClear, openLimitKept, placementExists, placementsDiffer, quotaKept, sameHolder, samePlacement, serialGiven, serialsDiffer, sound}
 use Rattle.rules.proofs.Counting.{all-each, clash, each-all, sum-alone}
-use Rattle.rules.proofs.Kept.Facts.{BlockFacts, DomainFacts, Existing, Facts, FreeFacts, Owned, StateFacts}
+use Rattle.rules.proofs.Kept.Facts.{BlockFacts, Existing, Facts, FreeFacts, Owned, OwnedBy, SoundBlock, SoundDomain, SoundIn, StateFacts}
 use Rattle.rules.proofs.Kept.Views.{ifPlaced, ifSerial, view, view-two}
 use Rattle.rules.proofs.Soundness.{Clauses, apart, together}
 
@@ -48,20 +48,38 @@ in-between low high n l m = joined (leb low n) (leb n high) (le-leb low n l) (le
 -- ---- One block
 
 -- The tests of one block, by name.
-record BlockTests (t : Table) (b : Block) : Type 0 where
-  given : serialGiven t b ≡ true
-  held : holderExists t b ≡ true
-  placed : placementExists t b ≡ true
-  counts : countsKept (adusPerBlock (t .config) .0) (t .config .period) (b .state) b ≡ true
+record BlockTests (capacity period : ℕ) (r : Domain) (b : Block) : Type 0 where
+  given : serialGiven r b ≡ true
+  held : holderExists r b ≡ true
+  placed : placementExists r b ≡ true
+  counts : countsKept capacity period (b .state) b ≡ true
   clear : freeIsClear b ≡ true
 
+tests-of : (capacity period : ℕ) (r : Domain) (b : Block) → blockSound capacity period r b ≡ true
+    → BlockTests capacity period r b
+unfolding blockSound
+tests-of capacity period r b e =
+    let two = serialGiven r b && holderExists r b in
+    let counts = countsKept capacity period (b .state) b in
+    let q5 = both (two && placementExists r b && counts) (freeIsClear b) e in
+    let q4 = both (two && placementExists r b) counts (q5 .0) in
+    let q3 = both two (placementExists r b) (q4 .0) in
+    let q2 = both (serialGiven r b) (holderExists r b) (q3 .0) in
+    record { given = q2 .0; held = q2 .1; placed = q3 .1; counts = q4 .1; clear = q5 .1 }
+
+tests-pass : (capacity period : ℕ) (r : Domain) (b : Block) → BlockTests capacity period r b
+    → blockSound capacity period r b ≡ true
+unfolding blockSound
+tests-pass capacity period r b q = rw (q .given, q .held, q .placed, q .counts, q .clear)
+
 -- A block that is not Free and passes is owned, and a Free one that passes is clear.
-owned-of : (t : Table) (b : Block) → isFree b ≡ false → BlockTests t b → Owned t b
-owned-of t b e q =
+owned-of : {capacity period : ℕ} (r : Domain) (b : Block) → isFree b ≡ false → BlockTests capacity period r b
+    → OwnedBy r b
+owned-of r b e q =
     let taken : not (isFree b) ≡ true = rw e in
-    let h = both (isDomainId (b .holder)) (domainAt t (b .holder) .exists) (implied (not (isFree b)) _ (q .held) taken) in
+    let h = both (isDomainId (b .holder)) (r .exists) (implied (not (isFree b)) _ (q .held) taken) in
     let id = is-between 1 16 (b .holder) (h .0) in
-    let s = is-between 1 (domainAt t (b .holder) .last) (b .serial) (implied (not (isFree b)) _ (q .given) taken) in
+    let s = is-between 1 (r .last) (b .serial) (implied (not (isFree b)) _ (q .given) taken) in
     record {
       low = id .least;
       high = id .most;
@@ -87,35 +105,44 @@ free-of b e q =
     }
 
 -- What passes has the facts of its state.
-state-facts : (t : Table) (b : Block) (s : State) → b .state ≡ s → BlockTests t b
-    → countsKept (adusPerBlock (t .config) .0) (t .config .period) s b ≡ true
-    → StateFacts t s b
-state-facts t b Free e q c = free-of b (ap isFreeState e) (q .clear)
-state-facts t b (Open way) e q c =
-    let h = both (ltb (b .written .0) (adusPerBlock (t .config) .0)) (between 1 (t .config .period) (b .left)) c in
-    let l = is-between 1 (t .config .period) (b .left) (h .1) in
+state-facts : (capacity period : ℕ) (r : Domain) (b : Block) (s : State) → b .state ≡ s → BlockTests capacity period r b
+    → countsKept capacity period s b ≡ true
+    → SoundIn s capacity period r b
+state-facts capacity period r b Free e q c = free-of b (ap isFreeState e) (q .clear)
+state-facts capacity period r b (Open way) e q c =
+    let h = both (ltb (b .written .0) capacity) (between 1 period (b .left)) c in
+    let l = is-between 1 period (b .left) (h .1) in
     record {
-      owned = owned-of t b (ap isFreeState e) q;
-      written = ltb-true (b .written .0) (adusPerBlock (t .config) .0) (h .0);
+      owned = owned-of r b (ap isFreeState e) q;
+      written = ltb-true (b .written .0) capacity (h .0);
       some-left = l .least;
       left = l .most;
     }
-state-facts t b (Closed way) e q c =
-    let h = both (leb (b .written .0) (adusPerBlock (t .config) .0)) (eqb (b .left) 0) c in
+state-facts capacity period r b (Closed way) e q c =
+    let h = both (leb (b .written .0) capacity) (eqb (b .left) 0) c in
     record {
-      owned = owned-of t b (ap isFreeState e) q;
-      written = leb-true (b .written .0) (adusPerBlock (t .config) .0) (h .0);
+      owned = owned-of r b (ap isFreeState e) q;
+      written = leb-true (b .written .0) capacity (h .0);
       left = eqb-true (b .left) 0 (h .1);
     }
 
+pub block-facts : (capacity period : ℕ) (r : Domain) (b : Block) → blockSound capacity period r b ≡ true
+    → SoundBlock capacity period r b
+block-facts capacity period r b e =
+    let q = tests-of capacity period r b e in state-facts capacity period r b (b .state) refl q (q .counts)
+
 -- A block that is not Free is owned.
-pub owned-by : (t : Table) (b : Block) → BlockFacts t b → isFree b ≡ false → Owned t b
-owned-by t b f e = go (b .state) f e
+pub owned-in : (capacity period : ℕ) (r : Domain) (b : Block) → SoundBlock capacity period r b
+    → isFree b ≡ false → OwnedBy r b
+owned-in capacity period r b f e = go (b .state) f e
   where
-    go : (s : State) → StateFacts t s b → isFreeState s ≡ false → Owned t b
+    go : (s : State) → SoundIn s capacity period r b → isFreeState s ≡ false → OwnedBy r b
     go Free h e = absurd (true≢false e)
     go (Open way) h e = h .owned
     go (Closed way) h e = h .owned
+
+pub owned-by : (t : Table) (b : Block) → BlockFacts t b → isFree b ≡ false → Owned t b
+owned-by t b f e = owned-in _ _ _ b f e
 
 -- A block of a domain is not Free.
 not-free : (t : Table) (b : Block) (d : ℕ) → BlockFacts t b → 1 ≤ d → heldBy d b ≡ true → isFree b ≡ false
@@ -127,63 +154,73 @@ not-free t b d f l e = go (b .state) f
     go (Closed way) h = refl
 
 -- A block that has the facts passes: one that is not Free, and each.
-tests-owned : (t : Table) (b : Block) → isFree b ≡ false → Owned t b
-    → countsKept (adusPerBlock (t .config) .0) (t .config .period) (b .state) b ≡ true
-    → BlockTests t b
-tests-owned t b e o c = record {
-  given = rw e (in-between 1 (domainAt t (b .holder) .last) (b .serial) (o .first) (o .last));
+tests-owned : (capacity period : ℕ) (r : Domain) (b : Block) → isFree b ≡ false → OwnedBy r b
+    → countsKept capacity period (b .state) b ≡ true
+    → BlockTests capacity period r b
+tests-owned capacity period r b e o c = record {
+  given = rw e (in-between 1 (r .last) (b .serial) (o .first) (o .last));
   held =
-      rw e (joined (isDomainId (b .holder)) (domainAt t (b .holder) .exists)
-      (in-between 1 16 (b .holder) (o .low) (o .high)) (o .exists));
+      rw e (joined (isDomainId (b .holder)) (r .exists) (in-between 1 16 (b .holder) (o .low) (o .high)) (o .exists));
   placed = o .below;
   counts = c;
   clear = rw e;
 }
 
-tests-state : (t : Table) (b : Block) (s : State) → b .state ≡ s → StateFacts t s b → BlockTests t b
-tests-state t b Free e h = record {
+tests-state : (capacity period : ℕ) (r : Domain) (b : Block) (s : State) → b .state ≡ s → SoundIn s capacity period r b
+    → BlockTests capacity period r b
+tests-state capacity period r b Free e h = record {
   given = rw e;
   held = rw e;
   placed = rw e;
   counts = rw e;
   clear = rw (e, h .holder, h .written, h .left, h .serial);
 }
-tests-state t b (Open way) e h =
-    tests-owned t b (ap isFreeState e) (h .owned)
-    (rw e (joined (ltb (b .written .0) (adusPerBlock (t .config) .0)) (between 1 (t .config .period) (b .left))
-    (lt-ltb (b .written .0) (adusPerBlock (t .config) .0) (h .written))
-    (in-between 1 (t .config .period) (b .left) (h .some-left) (h .left))))
-tests-state t b (Closed way) e h =
-    tests-owned t b (ap isFreeState e) (h .owned)
-    (rw e (joined (leb (b .written .0) (adusPerBlock (t .config) .0)) (eqb (b .left) 0)
-    (le-leb (b .written .0) (adusPerBlock (t .config) .0) (h .written)) (eq-eqb (b .left) 0 (h .left))))
+tests-state capacity period r b (Open way) e h =
+    tests-owned capacity period r b (ap isFreeState e) (h .owned)
+    (rw e (joined (ltb (b .written .0) capacity) (between 1 period (b .left))
+    (lt-ltb (b .written .0) capacity (h .written))
+    (in-between 1 period (b .left) (h .some-left) (h .left))))
+tests-state capacity period r b (Closed way) e h =
+    tests-owned capacity period r b (ap isFreeState e) (h .owned)
+    (rw e (joined (leb (b .written .0) capacity) (eqb (b .left) 0)
+    (le-leb (b .written .0) capacity (h .written)) (eq-eqb (b .left) 0 (h .left))))
+
+pub block-test : (capacity period : ℕ) (r : Domain) (b : Block) → SoundBlock capacity period r b
+    → blockSound capacity period r b ≡ true
+block-test capacity period r b f = tests-pass capacity period r b (tests-state capacity period r b (b .state) refl f)
 
 -- ---- One domain
 
 -- A domain that has the facts passes.
-quota-test : (t : Table) (d : ℕ) → DomainFacts t d → quotaKept t d ≡ true
-quota-test t d f =
-    let r = domainAt t d in
+quota-test : (blocks held opened : ℕ) (r : Domain) → SoundDomain blocks held opened r → quotaKept blocks held r ≡ true
+quota-test blocks held opened r f =
     rw (
       le-leb (r .reserved) (r .quota) (f .order),
-      le-leb (r .quota) (size t) (f .fits),
-      le-leb (heldCount t d) (r .quota) (f .within),
+      le-leb (r .quota) blocks (f .fits),
+      le-leb held (r .quota) (f .within),
     )
 
-open-test : (t : Table) (d : ℕ) → DomainFacts t d → openLimitKept t d ≡ true
-open-test t d f =
-    by-implies (domainAt t d .exists) _ (λ e.
-    let r = domainAt t d in
+open-test : (blocks held opened : ℕ) (r : Domain) → SoundDomain blocks held opened r → openLimitKept opened r ≡ true
+open-test blocks held opened r f =
+    by-implies (r .exists) _ (λ e.
     let h = f .existing e in
-    joined (between 1 16 (r .placements) && between (r .placements) 256 (r .limit)) (leb (openCount t d) (r .limit))
+    joined (between 1 16 (r .placements) && between (r .placements) 256 (r .limit)) (leb opened (r .limit))
     (joined (between 1 16 (r .placements)) (between (r .placements) 256 (r .limit))
     (in-between 1 16 (r .placements) (h .some-placement) (h .few-placements))
     (in-between (r .placements) 256 (r .limit) (h .enough) (h .most)))
-    (le-leb (openCount t d) (r .limit) (h .within)))
+    (le-leb opened (r .limit) (h .within)))
 
-missing-test : (t : Table) (d : ℕ) → DomainFacts t d → missingIsClear (domainAt t d) ≡ true
-missing-test t d f =
-    by-test (domainAt t d .exists) (λ e. rw e) (λ e. rw (f .missing e))
+missing-test : (blocks held opened : ℕ) (r : Domain) → SoundDomain blocks held opened r → missingIsClear r ≡ true
+missing-test blocks held opened r f = by-test (r .exists) (λ e. rw e) (λ e. rw (f .missing e))
+
+pub domain-test : (blocks held opened : ℕ) (r : Domain) → SoundDomain blocks held opened r
+    → domainSound blocks held opened r ≡ true
+unfolding domainSound
+domain-test blocks held opened r f =
+    joined (quotaKept blocks held r && openLimitKept opened r) (missingIsClear r)
+    (joined (quotaKept blocks held r) (openLimitKept opened r)
+    (quota-test blocks held opened r f) (open-test blocks held opened r f))
+    (missing-test blocks held opened r f)
 
 -- A domain that passes has the facts.
 existing-of : (r : Domain) (opens : ℕ)
@@ -221,18 +258,20 @@ missing-of r q e =
       last = eqb-true (r .last) 0 (h4 .1) i;
     }
 
-domain-of : (t : Table) (d : ℕ) → quotaKept t d ≡ true → openLimitKept t d ≡ true → missingIsClear (domainAt t d) ≡ true
-    → DomainFacts t d
-domain-of t d q o m =
-    let r = domainAt t d in
-    let h2 = both (leb (r .reserved) (r .quota) && leb (r .quota) (size t)) (leb (heldCount t d) (r .quota)) q in
-    let h1 = both (leb (r .reserved) (r .quota)) (leb (r .quota) (size t)) (h2 .0) in
+pub domain-facts : (blocks held opened : ℕ) (r : Domain) → domainSound blocks held opened r ≡ true
+    → SoundDomain blocks held opened r
+unfolding domainSound
+domain-facts blocks held opened r e =
+    let q = both (quotaKept blocks held r && openLimitKept opened r) (missingIsClear r) e in
+    let k = both (quotaKept blocks held r) (openLimitKept opened r) (q .0) in
+    let h2 = both (leb (r .reserved) (r .quota) && leb (r .quota) blocks) (leb held (r .quota)) (k .0) in
+    let h1 = both (leb (r .reserved) (r .quota)) (leb (r .quota) blocks) (h2 .0) in
     record {
       order = leb-true (r .reserved) (r .quota) (h1 .0);
-      fits = leb-true (r .quota) (size t) (h1 .1);
-      within = leb-true (heldCount t d) (r .quota) (h2 .1);
-      existing = λ e. existing-of r (openCount t d) (implied (r .exists) _ o e);
-      missing = missing-of r m;
+      fits = leb-true (r .quota) blocks (h1 .1);
+      within = leb-true held (r .quota) (h2 .1);
+      existing = λ x. existing-of r opened (implied (r .exists) _ (k .1) x);
+      missing = missing-of r (q .1);
     }
 
 -- ---- Two blocks
@@ -304,8 +343,8 @@ pair-at : (t : Table) (p : Block → Block → Bool) → eachPair t p ≡ true �
     → p (blockAt t n) (blockAt t m) ≡ true
 pair-at t p e n m l k = all-each n _ (all-each (size t) _ e n l) m k
 
-domain-at : (p : ℕ → Bool) → eachDomain p ≡ true → (d : ℕ) → 1 ≤ d → d ≤ 16 → p d ≡ true
-domain-at p e d low high =
+pub each-domain : (p : ℕ → Bool) → eachDomain p ≡ true → (d : ℕ) → 1 ≤ d → d ≤ 16 → p d ≡ true
+each-domain p e d low high =
     let same : d - 1 + 1 ≡ d = omega arith in subst (λ (x : ℕ). p x ≡ true) same (all-each 16 _ e (d - 1) (omega arith))
 
 -- ---- The facts from the test
@@ -313,17 +352,7 @@ domain-at p e d low high =
 module _ (v : Drive) (c : Clauses (v .table)) where
   -- Every block, ..
   block-of : (n : ℕ) → n < size (v .table) → BlockFacts (v .table) (blockAt (v .table) n)
-  block-of n l =
-      let t = v .table in
-      let s = size t in
-      let k = all-each s _ (c .counts) n l in
-      state-facts t (blockAt t n) (blockAt t n .state) refl (record {
-        given = all-each s _ (c .serials-given) n l;
-        held = all-each s _ (c .holders) n l;
-        placed = all-each s _ (c .placements) n l;
-        counts = k;
-        clear = all-each s _ (c .free-clear) n l;
-      }) k
+  block-of n l = block-facts _ _ _ (blockAt (v .table) n) (all-each (size (v .table)) _ (c .blocks) n l)
 
   -- .. the holder of two blocks of a domain, ..
   holder-of : (d n m : ℕ) → 1 ≤ d → n < size (v .table) → m < n
@@ -360,10 +389,10 @@ module _ (v : Drive) (c : Clauses (v .table)) where
   all-facts : Facts v
   all-facts = record {
     limits = c .limits;
-    domains = λ d low high. domain-of (v .table) d
-        (domain-at (quotaKept (v .table)) (c .quotas) d low high)
-        (domain-at (openLimitKept (v .table)) (c .open-limits) d low high)
-        (domain-at (λ d. missingIsClear (domainAt (v .table) d)) (c .missing-clear) d low high);
+    domains = λ d low high. domain-facts _ _ _ _
+        (each-domain
+        (λ e. domainSound (size (v .table)) (heldCount (v .table) e) (openCount (v .table) e) (domainAt (v .table) e))
+        (c .domains) d low high);
     covers = leb-true (coverage (reservedBy (v .table)) (heldCount (v .table))) (size (v .table)) (c .coverage);
     unique = unique-of;
     single = single-of;
@@ -376,10 +405,6 @@ facts-of v e = all-facts v (apart (v .table) e)
 -- ---- The test from the facts
 
 module _ (v : Drive) (f : Facts v) where
-  -- Every block passes.
-  tests-at : (n : ℕ) → n < size (v .table) → BlockTests (v .table) (blockAt (v .table) n)
-  tests-at n l = tests-state (v .table) (blockAt (v .table) n) (blockAt (v .table) n .state) refl (f .blocks n l)
-
   -- Two blocks of one domain, marked alike, are more than a view of at most 1 allows.
   not-two : (p : Holding → Bool) → ((d : ℕ) → 1 ≤ d → view (λ h. cond (p h) 1 0) d v ≤ 1)
       → (n m : ℕ) → n < size (v .table) → m < n → Pair (blockAt (v .table) n) (blockAt (v .table) m)
@@ -413,27 +438,19 @@ module _ (v : Drive) (f : Facts v) where
       let r = same-placed (b .state) (other .state) (h .1) in
       not-two (λ h. isPlacedState (r .0) (h .state)) (λ d. f .single d (r .0)) n m l k (pair-of b other (h .0)) (r .1) (r .2))
 
-  -- .. and so does every domain.
-  domains-pass : (p : ℕ → Bool) → ((d : ℕ) → DomainFacts (v .table) d → p d ≡ true) → eachDomain p ≡ true
-  domains-pass p h = each-all 16 _ (λ i l. h (i + 1) (f .domains (i + 1) (omega arith) (omega arith)))
-
+  -- .. and so does every block and every domain.
   all-clauses : Clauses (v .table)
   all-clauses =
       let t = v .table in
       let s = size t in
       record {
         limits = f .limits;
-        quotas = domains-pass (quotaKept t) (quota-test t);
+        domains = each-all 16 _ (λ i l. domain-test s (heldCount t (i + 1)) (openCount t (i + 1)) (domainAt t (i + 1))
+            (f .domains (i + 1) (omega arith) (omega arith)));
         coverage = le-leb (coverage (reservedBy t) (heldCount t)) s (f .covers);
-        open-limits = domains-pass (openLimitKept t) (open-test t);
+        blocks = each-all s _ (λ n l. block-test _ _ _ (blockAt t n) (f .blocks n l));
         serials-differ = each-all s _ (λ n l. each-all n _ (λ m k. serial-test n m l k));
-        serials-given = each-all s _ (λ n l. tests-at n l .given);
-        holders = each-all s _ (λ n l. tests-at n l .held);
-        placements = each-all s _ (λ n l. tests-at n l .placed);
         placements-differ = each-all s _ (λ n l. each-all n _ (λ m k. placement-test n m l k));
-        counts = each-all s _ (λ n l. tests-at n l .counts);
-        free-clear = each-all s _ (λ n l. tests-at n l .clear);
-        missing-clear = domains-pass (λ d. missingIsClear (domainAt t d)) (missing-test t);
       }
 
 pub facts-sound : (v : Drive) → Facts v → sound (v .table) ≡ true

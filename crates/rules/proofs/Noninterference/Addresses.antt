@@ -1,4 +1,4 @@
--- The flash addresses that a write hands back, read by serial.
+-- The flash addresses that a write hands back, with their block by name.
 use Prim.Native.Nat.{ℕ, zero, suc, _+_, _≤_, _<_}
 use mathlib.Core.List.{List, [], _∷_, _++_, map}
 use mathlib.Core.Path.{_≡_, refl, ap, ap₂, _∙_}
@@ -13,7 +13,7 @@ use Rattle.geometry.specs.declared.shape.Config.{Config}
 use Rattle.rules.specs.Blocks.{flashAddress, writtenInto}
 use Rattle.rules.specs.Counting.{rowTo}
 use Rattle.rules.specs.Drive.{Drive, blockAt}
-use Rattle.rules.specs.Observation.{readAddress, serialAt}
+use Rattle.rules.specs.Observation.{Address, Name, addressOf, nameOf}
 
 -- f 0, .., f (n - 1), of any kind.
 unfoldable pub rowOf : {A : Type 0} → (ℕ → A) → ℕ → List A
@@ -35,28 +35,28 @@ row-same f g zero h = refl
 row-same f g (suc k) h =
     ap₂ (λ (l : List _) (x : _). l ++ (x ∷ [])) (row-same f g k (λ i l. h i (omega arith))) (h k (omega arith))
 
--- So many addresses of a block with this serial, from an offset on.
-abbrev pub addressesAs : ℕ → ℕ → ℕ → ℕ → List FlashAddress
-addressesAs d serial first count = rowOf (λ i. record { domain = d; block = serial; offset = adus (first + i) }) count
+-- So many addresses of a block with this name, from an offset on.
+abbrev pub addressesAs : ℕ → Name → ℕ → ℕ → List Address
+addressesAs d name first count = rowOf (λ i. record { domain = d; block = name; offset = adus (first + i) }) count
 
-module _ (c : Config) (limits : Limits c) where
+module _ (a : ℕ) (c : Config) (limits : Limits c) where
   read-address : (u : Drive) (d n offset : ℕ) → u .table .config ≡ c → n < c .blocks → offset < adusPerBlock c .0
-      → readAddress u (wordOf c (record { domain = d; block = n; offset = adus offset }))
-      ≡ record { domain = d; block = serialAt u n; offset = adus offset }
+      → addressOf a u (wordOf c (record { domain = d; block = n; offset = adus offset }))
+      ≡ record { domain = d; block = nameOf a u n; offset = adus offset }
   read-address u d n offset shape inside small =
-      let a : FlashAddress = record { domain = d; block = n; offset = adus offset } in
-      let found : fieldsOf (u .table .config) (wordOf c a) ≡ a =
-      ap (λ (x : Config). fieldsOf x (wordOf c a)) shape ∙ fields-word c a (fields c a limits inside small) in
-      ap (λ (f : FlashAddress). record { domain = f .domain; block = serialAt u (f .block); offset = f .offset }) found
+      let f : FlashAddress = record { domain = d; block = n; offset = adus offset } in
+      let found : fieldsOf (u .table .config) (wordOf c f) ≡ f =
+      ap (λ (x : Config). fieldsOf x (wordOf c f)) shape ∙ fields-word c f (fields c f limits inside small) in
+      ap (λ (g : FlashAddress). record { domain = g .domain; block = nameOf a u (g .block); offset = g .offset }) found
 
   pub read-written : (u v : Drive) (d n : ℕ) (users : List ℕ) → u .table .config ≡ c → v .table .config ≡ c → n < c .blocks
       → blockAt (v .table) n .written .0 + length users ≤ adusPerBlock c .0
-      → map (readAddress u) (writtenInto d n users v .addresses)
-      ≡ addressesAs d (serialAt u n) (blockAt (v .table) n .written .0) (length users)
+      → map (addressOf a u) (writtenInto d n users v .addresses)
+      ≡ addressesAs d (nameOf a u n) (blockAt (v .table) n .written .0) (length users)
   unfolding writtenInto
   read-written u v d n users shape shape' inside fits =
       let first = blockAt (v .table) n .written .0 in
-      map-row (readAddress u) (λ i. flashAddress (v .table) d n (first + i)) (length users)
+      map-row (addressOf a u) (λ i. flashAddress (v .table) d n (first + i)) (length users)
       ∙ row-same _ _ (length users) (λ i k.
-      ap (λ (x : Config). readAddress u (wordOf x (record { domain = d; block = n; offset = adus (first + i) }))) shape'
+      ap (λ (x : Config). addressOf a u (wordOf x (record { domain = d; block = n; offset = adus (first + i) }))) shape'
       ∙ read-address u d n (first + i) shape inside (omega (arith, k, fits)))

@@ -6,6 +6,7 @@ use mathlib.Core.Path.{_≡_, refl, sym, ap, ap₂, _∙_}
 use lib.ListN.{getD, replicate}
 use borrow.Author.Tests.{lt-ltb, ltb-true}
 use Rattle.geometry.specs.Address.{isBlock}
+use Rattle.geometry.specs.Questions.{firstNo}
 use Rattle.geometry.specs.Shape.{adusPerBlock}
 use Rattle.geometry.specs.declared.shape.Config.{Config}
 use Rattle.model.specs.declared.block.Block.{Block}
@@ -14,10 +15,11 @@ use Rattle.model.specs.declared.block.Way.{Way}
 use Rattle.model.specs.declared.command.Command.the-variants.{Close, Free}
 use Rattle.model.specs.declared.table.Domain.{Domain}
 use Rattle.rules.specs.Blocks.{allOnes, closedAt, nextSerial, openedFor, withLast, writtenInto}
+use Rattle.rules.specs.Calls.{Call, _asking_}
 use Rattle.rules.specs.Drive.{Drive, blockAt, clearDomain, heldBy, size}
-use Rattle.rules.specs.Effects.{effect, verdict}
-use Rattle.rules.specs.Observation.{Bytes, Holding, Observation, Words, entriesOf, holdingAt, nameOf}
-use Rattle.rules.specs.Questions.{Lengths, questions}
+use Rattle.rules.specs.Effects.{effect}
+use Rattle.rules.specs.Observation.{Holding, Name, Observation, ReadBytes, ReadValues, ReadWords, entriesOf, holdingAt, nameOf}
+use Rattle.rules.specs.Questions.{heldBlockQuestions}
 use Rattle.rules.proofs.Kept.Asked.{close-asked, free-asked}
 use Rattle.rules.proofs.Kept.Calls.{course-fit}
 use Rattle.rules.proofs.Kept.Changes.{HeldBlock, Openable, Writable, closed-changed, closed-found, closed-held, freed-changed, freed-not-held, not-held, opened-changed, opened-domain, opened-held, opened-record, written-changed, written-domains, written-held, written-record}
@@ -25,7 +27,7 @@ use Rattle.rules.proofs.Kept.Entries.{entries-opened, entries-written}
 use Rattle.rules.proofs.Kept.Fit.{Fit, fit-blocks}
 use Rattle.rules.proofs.Kept.Holdings.{closed-seen, closedHolding, seenOf, written-seen, writtenHolding}
 use Rattle.rules.proofs.Kept.Views.{Alike, alike-changed, weight}
-use Rattle.rules.proofs.Noninterference.Common.{Pair, exists-same, holding-same, inside-other, inside-same, own-other, own-same, sound-same}
+use Rattle.rules.proofs.Noninterference.Common.{Pair, first-same, holding-same, inside-other, inside-same, own-other, own-same, same-name}
 use Rattle.rules.proofs.Noninterference.Twins.{Twin, ask-same, told}
 
 -- A closed block, a written one and an opened one as their domain sees them.
@@ -93,28 +95,33 @@ module _ {a n m : ℕ} {v w : Drive} (s : Alike a v w) (x : Openable a n v) (y :
       (λ q. rw (opened-held x way, opened-held y way) (ap q opened-same))
       (opened-domain x way ∙ ap (λ (r : Domain). withLast (r .last + 1) r) (s .domain) ∙ sym (opened-domain y way))
 
--- An answer of one block number, by serial, with nothing filled.
-abbrev pub blockTold : ℕ → Observation
-blockTold serial = record { number = 0; serials = serial ∷ []; words = Words.plain []; bytes = Bytes.plain [] }
+-- An answer of one block, by name, with nothing filled.
+abbrev pub blockTold : Name → Observation
+blockTold name = record {
+  number = 0;
+  values = ReadValues.blocks (name ∷ []);
+  words = ReadWords.plain [];
+  bytes = ReadBytes.plain [];
+}
 
-module _ {a : ℕ} {v w : Drive} (p : Pair a v w) (lent : Lengths) where
-  fit-left : Fit v lent
-  fit-left = course-fit (p .left) lent
+abbrev closing : Drive → ℕ → Drive
+closing v n = record { table = closedAt n (v .table); store = v .store }
 
-  fit-right : Fit w lent
-  fit-right = course-fit (p .right) lent
+module _ {a : ℕ} {v w : Drive} (p : Pair a v w) (call : Call) where
+  fit-left : Fit v call
+  fit-left = course-fit (p .left) call
+
+  fit-right : Fit w call
+  fit-right = course-fit (p .right) call
 
   -- ---- Close
 
   module _ (n m : ℕ) (same : nameOf a v n ≡ nameOf a w m) where
-    close-verdicts : verdict v lent (Close a n) ≡ verdict w lent (Close a m)
-    unfolding questions
-    close-verdicts =
-        ask-same _ _ _ _ _ (sound-same p) (λ e2.
-        ask-same _ _ _ _ _ refl (λ e4.
-        ask-same _ _ _ _ _ (exists-same p) (λ e5.
+    -- What Close and Free are asked of the block.
+    block-asked-same : firstNo (heldBlockQuestions (v .table) a n) ≡ firstNo (heldBlockQuestions (w .table) a m)
+    block-asked-same =
         ask-same _ _ _ _ _ (inside-same p n m same) (λ e6.
-        ask-same _ _ _ _ _ (own-same p n m same e6) (λ e9. refl)))))
+        ask-same _ _ _ _ _ (own-same p n m same e6) (λ e9. refl))
 
     module _ (inside : isBlock (v .table .config) n ≡ true) (own : heldBy a (blockAt (v .table) n) ≡ true) where
       one-block : HeldBlock a n v
@@ -136,54 +143,54 @@ module _ {a : ℕ} {v w : Drive} (p : Pair a v w) (lent : Lengths) where
       old-weights : (q : Holding → ℕ) → weight q a v n ≡ weight q a w m
       old-weights q = rw (own, other-block .held) (ap q (holding-same p n m same inside own))
 
-      closed-same : holdingAt (effect (Close a n) v .drive) n ≡ holdingAt (effect (Close a m) w .drive) m
+      closed-same : holdingAt (effect v (call asking Close a n) .drive) n ≡ holdingAt (effect w (call asking Close a m) .drive) m
       unfolding effect
       closed-same =
           close-holding one-block
           ∙ ap (λ (h : Holding). closedHolding h) (holding-same p n m same inside own)
           ∙ sym (close-holding other-block)
 
-      closed-alike : Alike a (effect (Close a n) v .drive) (effect (Close a m) w .drive)
+      closed-alike : Alike a (effect v (call asking Close a n) .drive) (effect w (call asking Close a m) .drive)
       unfolding effect
       closed-alike =
           alike-changed (p .alike) (closed-changed one-block) (closed-changed other-block) old-weights
           (λ q. rw (closed-held one-block, closed-held other-block) (ap q closed-same))
           (p .alike .domain)
 
-      closed-told : (bytes other : List ℕ) → bytes ≡ [] → other ≡ [] → told v (Close a n) bytes ≡ told w (Close a m) other
+      closed-told : (bytes other : List ℕ) → bytes ≡ [] → other ≡ []
+          → told a v (call asking Close a n) bytes ≡ told a w (call asking Close a m) other
       unfolding effect
-      closed-told bytes other b o = rw (b, o) (ap (λ (h : Holding). blockTold (h .serial)) closed-same)
+      closed-told bytes other b o =
+          rw (b, o) (ap (λ (x : Name). blockTold x)
+          (same-name a (closing v n) (closing w m) n m (one-block .inside, closed-held one-block) (other-block .inside, closed-held other-block)
+          (ap (λ (h : Holding). h .serial) closed-same)))
 
-      pub freed-alike : Alike a (effect (Free a n) v .drive) (effect (Free a m) w .drive)
+      pub freed-alike : Alike a (effect v (call asking Free a n) .drive) (effect w (call asking Free a m) .drive)
       unfolding effect
       freed-alike =
           alike-changed (p .alike) (freed-changed one-block) (freed-changed other-block) old-weights
           (λ q. rw (freed-not-held one-block, freed-not-held other-block))
           (p .alike .domain)
 
-      freed-told : (bytes other : List ℕ) → bytes ≡ [] → other ≡ [] → told v (Free a n) bytes ≡ told w (Free a m) other
+      freed-told : (bytes other : List ℕ) → bytes ≡ [] → other ≡ []
+          → told a v (call asking Free a n) bytes ≡ told a w (call asking Free a m) other
       unfolding effect
-      freed-told bytes other b o =
-          rw (b, o) (ap (λ (h : Holding). blockTold (h .serial)) (holding-same p n m same inside own))
+      freed-told bytes other b o = rw (b, o) (ap (λ (x : Name). blockTold x) same)
 
-    pub close-twin : Twin a v w lent (Close a n) (Close a m)
+    pub close-twin : Twin a v w (call asking Close a n) (call asking Close a m)
     close-twin = record {
       reading = refl;
-      verdicts = close-verdicts;
-      after = λ e f. let x = close-asked v lent fit-left a n e in closed-alike (lt-ltb n (size (v .table)) (x .inside)) (x .held);
+      verdicts = first-same p call (Close a n) (Close a m) refl refl refl (λ e5. block-asked-same);
+      after = λ e f. let x = close-asked v call fit-left a n e in closed-alike (lt-ltb n (size (v .table)) (x .inside)) (x .held);
       telling = λ e f bytes other b o.
-          let x = close-asked v lent fit-left a n e in closed-told (lt-ltb n (size (v .table)) (x .inside)) (x .held) bytes other b o;
+          let x = close-asked v call fit-left a n e in closed-told (lt-ltb n (size (v .table)) (x .inside)) (x .held) bytes other b o;
     }
 
-    free-verdicts : verdict v lent (Free a n) ≡ verdict w lent (Free a m)
-    unfolding questions
-    free-verdicts = close-verdicts
-
-    pub free-twin : Twin a v w lent (Free a n) (Free a m)
+    pub free-twin : Twin a v w (call asking Free a n) (call asking Free a m)
     free-twin = record {
       reading = refl;
-      verdicts = free-verdicts;
-      after = λ e f. let x = free-asked v lent fit-left a n e in freed-alike (lt-ltb n (size (v .table)) (x .inside)) (x .held);
+      verdicts = first-same p call (Free a n) (Free a m) refl refl refl (λ e5. block-asked-same);
+      after = λ e f. let x = free-asked v call fit-left a n e in freed-alike (lt-ltb n (size (v .table)) (x .inside)) (x .held);
       telling = λ e f bytes other b o.
-          let x = free-asked v lent fit-left a n e in freed-told (lt-ltb n (size (v .table)) (x .inside)) (x .held) bytes other b o;
+          let x = free-asked v call fit-left a n e in freed-told (lt-ltb n (size (v .table)) (x .inside)) (x .held) bytes other b o;
     }

@@ -1,21 +1,27 @@
 -- What two drives that a fully reserved domain cannot tell apart have in common for every request of it: the answers to the questions
 -- that look at its record and its blocks alone, coverage included, and what a named block is.
 use Prim.Native.Nat.{ℕ, _+_, _≤_, max}
-use mathlib.Core.Bool.{Bool, true, false}
-use mathlib.Core.Path.{_≡_, sym, ap, ap₂, _∙_}
+use mathlib.Core.Bool.{Bool, true, false, cond}
+use mathlib.Core.List.{List, _∷_, _++_}
+use mathlib.Core.Path.{_≡_, refl, sym, ap, ap₂, _∙_}
 use native.Mathlib.Omega.{arith}
 use lib.Dec.{eqb, leb, ltb}
-use borrow.Author.Tests.{eq-eqb, eqb-true, le-leb, leb-true, ltb-true, ne-eqb}
+use borrow.Author.Tests.{eq-eqb, eqb-true, le-leb, leb-true, lt-ltb, ltb-true, ne-eqb}
 use Rattle.geometry.proofs.Laws.Shape.{by-test}
-use Rattle.geometry.specs.Address.{isBlock}
+use Rattle.geometry.specs.Address.{isBlock, isDomainId}
+use Rattle.geometry.specs.Questions.{Question, ask, firstNo}
 use Rattle.geometry.specs.Shape.{storeLength}
 use Rattle.geometry.specs.declared.shape.Config.{Config}
+use Rattle.model.specs.declared.block.Block.{Block}
+use Rattle.model.specs.declared.command.Command.{Command}
 use Rattle.model.specs.declared.table.Domain.{Domain}
+use Rattle.rules.specs.Calls.{Call, Own, _asking_, existing, profile}
 use Rattle.rules.specs.Domains.{coverage, instead, reservedBy}
 use Rattle.rules.specs.Drive.{Drive, blockAt, domainAt, heldBy, heldCount, size}
+use Rattle.rules.specs.Effects.{verdict}
 use Rattle.rules.specs.Noninterference.{reservesAll}
 use Rattle.rules.specs.Observation.{Holds, Name, held, holdingAt, nameOf, noBlock, other, serialAt}
-use Rattle.rules.specs.Questions.{Lengths, coveredAfter, exists, mayOpen, serialsLeft, storeFits, withinQuota}
+use Rattle.rules.specs.Questions.{coveredAfter, domainQuestions, exists, laterQuestions, mayOpen, questions, serialsLeft, storeFits, storeQuestions, withinQuota}
 use Rattle.rules.specs.Soundness.{sound}
 use Rattle.rules.proofs.Counting.{by-eq, sum-le}
 use Rattle.rules.proofs.Kept.Calls.{Course}
@@ -23,6 +29,7 @@ use Rattle.rules.proofs.Kept.OneBlock.{held-alike, open-alike}
 use Rattle.rules.proofs.Kept.Tested.{facts-sound}
 use Rattle.rules.proofs.Kept.Views.{Alike}
 use Rattle.rules.proofs.Noninterference.Pairing.{paired}
+use Rattle.rules.proofs.Noninterference.Twins.{ask-same}
 
 -- A domain's coverage is at most what it was if the larger of its two numbers is.
 pub coverage-within : (d r h : ℕ) (f g : ℕ → ℕ) → max r h ≤ max (f d) (g d)
@@ -76,6 +83,20 @@ module _ (a : ℕ) (v : Drive) (n : ℕ) where
   unfolding named-serial
   number-named e = rw e
 
+-- A block of the drive that the domain holds is named by its serial.
+pub name-held : (a : ℕ) (v : Drive) (n : ℕ) → Holds a v n → nameOf a v n ≡ held (serialAt v n)
+name-held a v n h = rw (lt-ltb n (size (v .table)) (h .0), h .1)
+
+-- A block whose record stays keeps its name.
+pub name-kept : (a : ℕ) (v w : Drive) (n : ℕ) → w .table .config ≡ v .table .config → blockAt (w .table) n ≡ blockAt (v .table) n
+    → nameOf a w n ≡ nameOf a v n
+name-kept a v w n config same =
+    ap₂ (λ (c : Config) (b : Block). cond (isBlock c n) (cond (heldBy a b) (held (b .serial)) other) (noBlock n)) config same
+
+-- Two blocks of one serial have one name.
+pub same-name : (a : ℕ) (v w : Drive) (n m : ℕ) → Holds a v n → Holds a w m → serialAt v n ≡ serialAt w m → nameOf a v n ≡ nameOf a w m
+same-name a v w n m h k same = name-held a v n h ∙ ap (λ (s : ℕ). held s) same ∙ sym (name-held a w m k)
+
 -- A domain with the ID a, in two drives that it cannot tell apart and in which its guarantee is its quota.
 pub record Pair (a : ℕ) (v w : Drive) : Type 0 where
   pub low : 1 ≤ a
@@ -92,11 +113,41 @@ module _ {a : ℕ} {v w : Drive} (p : Pair a v w) where
   pub sound-same : sound (v .table) ≡ sound (w .table)
   sound-same = facts-sound v (p .left .facts) ∙ sym (facts-sound w (p .right .facts))
 
-  pub fits-same : (lent : Lengths) → storeFits (v .table) lent ≡ storeFits (w .table) lent
-  fits-same lent = ap (λ (c : Config). eqb (lent .store) (storeLength c .0)) (p .alike .config)
+  pub fits-same : (call : Call) → storeFits (v .table) call ≡ storeFits (w .table) call
+  fits-same call = ap (λ (c : Config). eqb (call .lent .store) (storeLength c .0)) (p .alike .config)
 
   pub exists-same : exists (v .table) a ≡ exists (w .table) a
   exists-same = ap (λ (r : Domain). r .exists) (p .alike .domain)
+
+  -- What every command of the domain is asked first, ..
+  first-asked : (own own' : Own) (store store' : Bool) (k l : Call) (qs rs : List Question)
+      → storeFits (v .table) k ≡ storeFits (w .table) l
+      → own ≡ existing a
+      → own' ≡ existing a
+      → store ≡ store'
+      → (exists (v .table) a ≡ true → firstNo qs ≡ firstNo rs)
+      → firstNo ((ask 2 (sound (v .table)) ∷ storeQuestions store (v .table) k ++ domainQuestions (v .table) own) ++ qs)
+      ≡ firstNo ((ask 2 (sound (w .table)) ∷ storeQuestions store' (w .table) l ++ domainQuestions (w .table) own') ++ rs)
+  first-asked own own' store store' k l qs rs fits e f g rest =
+      let four = ask-same 4 (isDomainId a) (isDomainId a) _ _ refl (λ e4.
+      ask-same 5 (exists (v .table) a) (exists (w .table) a) qs rs exists-same rest) in
+      rw (e, f, g) (ask-same 2 (sound (v .table)) (sound (w .table)) _ _ sound-same (λ e2.
+      by-test store'
+      (λ asked. rw asked (ask-same 3 (storeFits (v .table) k) (storeFits (w .table) l) _ _ fits (λ e3. four)))
+      (λ not-asked. rw not-asked four)))
+
+  -- .. so that two commands of it get the same if they do where they go on from there.
+  pub first-same : (call : Call) (c d : Command)
+      → profile c .own ≡ existing a
+      → profile d .own ≡ existing a
+      → profile c .store ≡ profile d .store
+      → (exists (v .table) a ≡ true
+      → firstNo (laterQuestions c v (call asking c)) ≡ firstNo (laterQuestions d w (call asking d)))
+      → verdict v (call asking c) ≡ verdict w (call asking d)
+  unfolding questions
+  first-same call c d e f g rest =
+      first-asked (profile c .own) (profile d .own) (profile c .store) (profile d .store) (call asking c) (call asking d)
+      (laterQuestions c v (call asking c)) (laterQuestions d w (call asking d)) (fits-same call) e f g rest
 
   pub held-same : heldCount (v .table) a ≡ heldCount (w .table) a
   held-same = held-alike (p .alike)

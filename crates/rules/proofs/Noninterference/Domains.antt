@@ -14,12 +14,13 @@ use Rattle.geometry.specs.declared.shape.Config.{Config}
 use Rattle.geometry.specs.declared.shape.Planes.{Planes}
 use Rattle.model.specs.declared.command.Command.the-variants.{ChangeCapacity, Create, Delete, Pulse}
 use Rattle.model.specs.declared.table.Domain.{Domain}
+use Rattle.rules.specs.Calls.{Call, _asking_}
 use Rattle.rules.specs.Domains.{arePlaneCounts, changedDomain, coveredWith, createdDomain, reservedBy}
 use Rattle.rules.specs.Drive.{Drive, domainAt, heldCount, size}
-use Rattle.rules.specs.Effects.{driveAfter, effect, verdict}
+use Rattle.rules.specs.Effects.{effect, step, verdict}
 use Rattle.rules.specs.Noninterference.{staysReserved}
 use Rattle.rules.specs.Observation.{Holding}
-use Rattle.rules.specs.Questions.{Lengths, exists, questions}
+use Rattle.rules.specs.Questions.{exists, questions}
 use Rattle.rules.specs.Soundness.{sound}
 use Rattle.rules.proofs.Effects.{accepted-drive}
 use Rattle.rules.proofs.Kept.Calls.{Course}
@@ -28,7 +29,7 @@ use Rattle.rules.proofs.Kept.Holdings.{aged}
 use Rattle.rules.proofs.Kept.Sequel.{OwnSequel}
 use Rattle.rules.proofs.Kept.Sweeps.{pulsed-domain, pulsed-sequel, pulsed-view}
 use Rattle.rules.proofs.Kept.Views.{Alike, view}
-use Rattle.rules.proofs.Noninterference.Common.{Pair, coverage-within, exists-same, held-same, sound-same}
+use Rattle.rules.proofs.Noninterference.Common.{Pair, coverage-within, exists-same, first-same, held-same, sound-same}
 use Rattle.rules.proofs.Noninterference.Twins.{Twin, ask-same}
 use Rattle.rules.proofs.Questions.{answered-yes}
 use Rattle.rules.proofs.Runs.{deleted-gone}
@@ -59,8 +60,8 @@ not-last true other = refl
 not-last false other = absurd (other refl)
 
 -- A Create that is not refused for coverage is covered.
-create-covered : (a : ℕ) (v : Drive) (lent : Lengths) (guarantee quota : Planes) (placements limit : ℕ)
-    → ¬ (verdict v lent (Create a guarantee quota placements limit) ≡ 14)
+create-covered : (a : ℕ) (v : Drive) (call : Call) (guarantee quota : Planes) (placements limit : ℕ)
+    → ¬ (verdict v (call asking Create a guarantee quota placements limit) ≡ 14)
     → let t = v .table in
     sound t ≡ true
     → isDomainId a ≡ true
@@ -68,11 +69,11 @@ create-covered : (a : ℕ) (v : Drive) (lent : Lengths) (guarantee quota : Plane
     → arePlaneCounts (t .config) guarantee quota && between 1 16 placements && between 0 256 limit ≡ true
     → coveredWith t a (createdDomain (t .config) guarantee quota placements limit .reserved) (heldCount t a) ≡ true
 unfolding questions
-create-covered a v lent guarantee quota placements limit other e2 e4 e5 e6 =
+create-covered a v call guarantee quota placements limit other e2 e4 e5 e6 =
     not-last _ (λ no. other (last-decides _ _ _ _ _ e2 e4 e5 e6 ∙ no))
 
-module _ (a : ℕ) (v : Drive) (lent : Lengths) (course : Course v) (guarantee quota : Planes)
-    (stays : staysReserved a v (driveAfter v lent (ChangeCapacity a guarantee quota)) ≡ true) where
+module _ (a : ℕ) (v : Drive) (call : Call) (course : Course v) (guarantee quota : Planes)
+    (stays : staysReserved a v (step (call asking ChangeCapacity a guarantee quota) v) ≡ true) where
   abbrev new : Domain
   new = changedDomain (v .table) a guarantee quota
 
@@ -80,14 +81,14 @@ module _ (a : ℕ) (v : Drive) (lent : Lengths) (course : Course v) (guarantee q
   old = domainAt (v .table) a
 
   -- An accepted Change Capacity of a domain that stays reserved keeps the guarantee.
-  change-keeps : verdict v lent (ChangeCapacity a guarantee quota) ≡ 0 → new .reserved ≡ old .reserved
+  change-keeps : verdict v (call asking ChangeCapacity a guarantee quota) ≡ 0 → new .reserved ≡ old .reserved
   unfolding questions
   change-keeps e =
       let c = ChangeCapacity a guarantee quota in
-      let there : old .exists ≡ true = answered-yes v lent c 2 e in
-      let after : domainAt (driveAfter v lent c .table) a ≡ new =
-      ap (λ (u : Drive). domainAt (u .table) a) (accepted-drive v lent c e)
-      ∙ changed v lent (course .facts) (course .shaped .domains) a guarantee quota e .1 in
+      let there : old .exists ≡ true = answered-yes v (call asking c) 5 e in
+      let after : domainAt (step (call asking c) v .table) a ≡ new =
+      ap (λ (u : Drive). domainAt (u .table) a) (accepted-drive v (call asking c) e)
+      ∙ changed v call (course .facts) (course .shaped .domains) a guarantee quota e .1 in
       let reserved = eqb (new .reserved) (old .reserved) in
       let first = both (new .exists && reserved) (eqb (new .quota) (old .quota)) (rw (after, there) at stays) .0 in
       eqb-true (new .reserved) (old .reserved) (both (new .exists) reserved first .1)
@@ -121,15 +122,15 @@ module _ (a : ℕ) (v : Drive) (lent : Lengths) (course : Course v) (guarantee q
       (λ e14. e14)))
 
 -- No Delete of a domain that stays reserved is accepted.
-delete-refused : (a : ℕ) (v : Drive) (lent : Lengths) → staysReserved a v (driveAfter v lent (Delete a)) ≡ true
-    → ¬ (verdict v lent (Delete a) ≡ 0)
+delete-refused : (a : ℕ) (v : Drive) (call : Call) → staysReserved a v (step (call asking Delete a) v) ≡ true
+    → ¬ (verdict v (call asking Delete a) ≡ 0)
 unfolding questions
-delete-refused a v lent stays e =
-    let there : exists (v .table) a ≡ true = answered-yes v lent (Delete a) 2 e in
-    let gone = ap (λ (r : Domain). r .exists) (deleted-gone v lent a e .clear) in
+delete-refused a v call stays e =
+    let there : exists (v .table) a ≡ true = answered-yes v (call asking Delete a) 5 e in
+    let gone = ap (λ (r : Domain). r .exists) (deleted-gone v call a e .clear) in
     true≢false (sym stays ∙ (rw (there, gone)))
 
-module _ {a : ℕ} {v w : Drive} (p : Pair a v w) (lent : Lengths) where
+module _ {a : ℕ} {v w : Drive} (p : Pair a v w) (call : Call) where
   -- The domain's record is replaced by the same one in both.
   alike-replaced : (v' w' : Drive) (r s : Domain) → r ≡ s
       → OwnSequel a v v' × (domainAt (v' .table) a ≡ r) × ((q : Holding → ℕ) → view q a v' ≡ view q a v)
@@ -145,7 +146,7 @@ module _ {a : ℕ} {v w : Drive} (p : Pair a v w) (lent : Lengths) where
 
   create-verdicts : (guarantee quota : Planes) (placements limit : ℕ)
       → let c = Create a guarantee quota placements limit in
-      ¬ (verdict v lent c ≡ 14) → ¬ (verdict w lent c ≡ 14) → verdict v lent c ≡ verdict w lent c
+      ¬ (verdict v (call asking c) ≡ 14) → ¬ (verdict w (call asking c) ≡ 14) → verdict v (call asking c) ≡ verdict w (call asking c)
   unfolding questions
   create-verdicts guarantee quota placements limit left right =
       let missing = ap not (exists-same p) in
@@ -153,21 +154,21 @@ module _ {a : ℕ} {v w : Drive} (p : Pair a v w) (lent : Lengths) where
       ap (λ (c : Config). arePlaneCounts c guarantee quota && between 1 16 placements && between 0 256 limit)
       (p .alike .config) in
       asked-same _ _ _ _ _ _ _ _ _ (sound-same p) missing counts (λ e2 e4 e5 e6.
-      create-covered a v lent guarantee quota placements limit left e2 e4 e5 e6
-      ∙ sym (create-covered a w lent guarantee quota placements limit right
+      create-covered a v call guarantee quota placements limit left e2 e4 e5 e6
+      ∙ sym (create-covered a w call guarantee quota placements limit right
       (sym (sound-same p) ∙ e2) e4 (sym missing ∙ e5) (sym counts ∙ e6)))
 
   create-after : (guarantee quota : Planes) (placements limit : ℕ)
       → let c = Create a guarantee quota placements limit in
-      verdict v lent c ≡ 0 → verdict w lent c ≡ 0 → Alike a (effect c v .drive) (effect c w .drive)
+      verdict v (call asking c) ≡ 0 → verdict w (call asking c) ≡ 0 → Alike a (effect v (call asking c) .drive) (effect w (call asking c) .drive)
   create-after guarantee quota placements limit e f =
       alike-replaced _ _ _ _ (ap (λ (c : Config). createdDomain c guarantee quota placements limit) (p .alike .config))
-      (created v lent (p .left .facts) (p .left .shaped .domains) a guarantee quota placements limit e)
-      (created w lent (p .right .facts) (p .right .shaped .domains) a guarantee quota placements limit f)
+      (created v call (p .left .facts) (p .left .shaped .domains) a guarantee quota placements limit e)
+      (created w call (p .right .facts) (p .right .shaped .domains) a guarantee quota placements limit f)
 
   pub create-twin : (guarantee quota : Planes) (placements limit : ℕ)
       → let c = Create a guarantee quota placements limit in
-      ¬ (verdict v lent c ≡ 14) → ¬ (verdict w lent c ≡ 14) → Twin a v w lent c c
+      ¬ (verdict v (call asking c) ≡ 14) → ¬ (verdict w (call asking c) ≡ 14) → Twin a v w (call asking c) (call asking c)
   unfolding effect
   create-twin guarantee quota placements limit left right = record {
     reading = refl;
@@ -185,30 +186,30 @@ module _ {a : ℕ} {v w : Drive} (p : Pair a v w) (lent : Lengths) where
 
   change-verdicts : (guarantee quota : Planes)
       → let c = ChangeCapacity a guarantee quota in
-      staysReserved a v (driveAfter v lent c) ≡ true → staysReserved a w (driveAfter w lent c) ≡ true
-      → verdict v lent c ≡ verdict w lent c
+      staysReserved a v (step (call asking c) v) ≡ true → staysReserved a w (step (call asking c) w) ≡ true
+      → verdict v (call asking c) ≡ verdict w (call asking c)
   unfolding questions
   change-verdicts guarantee quota left right =
       let there = exists-same p in
       let counts = ap (λ (c : Config). arePlaneCounts c guarantee quota) (p .alike .config) in
       let rises = ap₂ (λ (r s : Domain). leb (r .reserved) (s .reserved)) (changed-same guarantee quota) (p .alike .domain) in
       asked-same _ _ _ _ _ _ _ _ _ (sound-same p) there counts (λ e2 e4 e5 e6.
-      change-covered a v lent (p .left) guarantee quota left e2 e4 e5 e6
+      change-covered a v call (p .left) guarantee quota left e2 e4 e5 e6
       ∙ rises
-      ∙ sym (change-covered a w lent (p .right) guarantee quota right
+      ∙ sym (change-covered a w call (p .right) guarantee quota right
       (sym (sound-same p) ∙ e2) e4 (sym there ∙ e5) (sym counts ∙ e6)))
 
   change-after : (guarantee quota : Planes)
       → let c = ChangeCapacity a guarantee quota in
-      verdict v lent c ≡ 0 → verdict w lent c ≡ 0 → Alike a (effect c v .drive) (effect c w .drive)
+      verdict v (call asking c) ≡ 0 → verdict w (call asking c) ≡ 0 → Alike a (effect v (call asking c) .drive) (effect w (call asking c) .drive)
   change-after guarantee quota e f =
       alike-replaced _ _ _ _ (changed-same guarantee quota)
-      (changed v lent (p .left .facts) (p .left .shaped .domains) a guarantee quota e)
-      (changed w lent (p .right .facts) (p .right .shaped .domains) a guarantee quota f)
+      (changed v call (p .left .facts) (p .left .shaped .domains) a guarantee quota e)
+      (changed w call (p .right .facts) (p .right .shaped .domains) a guarantee quota f)
 
   pub change-twin : (guarantee quota : Planes)
       → let c = ChangeCapacity a guarantee quota in
-      staysReserved a v (driveAfter v lent c) ≡ true → staysReserved a w (driveAfter w lent c) ≡ true → Twin a v w lent c c
+      staysReserved a v (step (call asking c) v) ≡ true → staysReserved a w (step (call asking c) w) ≡ true → Twin a v w (call asking c) (call asking c)
   unfolding effect
   change-twin guarantee quota left right = record {
     reading = refl;
@@ -219,52 +220,48 @@ module _ {a : ℕ} {v w : Drive} (p : Pair a v w) (lent : Lengths) where
 
   -- ---- Delete
 
-  delete-verdicts : verdict v lent (Delete a) ≡ verdict w lent (Delete a)
-  unfolding questions
-  delete-verdicts =
-      ask-same 2 (sound (v .table)) (sound (w .table)) _ _ (sound-same p) (λ e2.
-      ask-same 4 (isDomainId a) (isDomainId a) _ _ refl (λ e4.
-      ask-same 5 (exists (v .table) a) (exists (w .table) a) [] [] (exists-same p) (λ e5. refl)))
+  delete-verdicts : verdict v (call asking Delete a) ≡ verdict w (call asking Delete a)
+  delete-verdicts = first-same p call (Delete a) (Delete a) refl refl refl (λ e5. refl)
 
-  pub delete-twin : staysReserved a v (driveAfter v lent (Delete a)) ≡ true → Twin a v w lent (Delete a) (Delete a)
+  pub delete-twin : staysReserved a v (step (call asking Delete a) v) ≡ true → Twin a v w (call asking Delete a) (call asking Delete a)
   delete-twin left = record {
     reading = refl;
     verdicts = delete-verdicts;
-    after = λ e f. absurd (delete-refused a v lent left e);
-    telling = λ e f. absurd (delete-refused a v lent left e);
+    after = λ e f. absurd (delete-refused a v call left e);
+    telling = λ e f. absurd (delete-refused a v call left e);
   }
 
-  -- ---- Pulse
+-- ---- Pulse, whatever is lent with it
 
-  pulse-verdicts : (seconds : ℕ) → verdict v lent (Pulse seconds) ≡ verdict w lent (Pulse seconds)
+module _ {a : ℕ} {v w : Drive} (p : Pair a v w) (call other : Call) (seconds : ℕ) where
+  pulse-verdicts : verdict v (call asking Pulse seconds) ≡ verdict w (other asking Pulse seconds)
   unfolding questions
-  pulse-verdicts seconds =
-      ask-same 2 (sound (v .table)) (sound (w .table)) _ _ (sound-same p) (λ e2. refl)
+  pulse-verdicts = ask-same 2 (sound (v .table)) (sound (w .table)) _ _ (sound-same p) (λ e2. refl)
 
-  pulse-after : (seconds : ℕ) → Alike a (effect (Pulse seconds) v .drive) (effect (Pulse seconds) w .drive)
-  pulse-after seconds =
+  pulse-after : Alike a (effect v (call asking Pulse seconds) .drive) (effect w (other asking Pulse seconds) .drive)
+  pulse-after =
       let whole = p .left .shaped .domains in
       let whole' = p .right .shaped .domains in
       record {
         config =
-            pulsed-sequel v lent (p .left .facts) whole seconds .config
+            pulsed-sequel v call (p .left .facts) whole seconds .config
             ∙ p .alike .config
-            ∙ sym (pulsed-sequel w lent (p .right .facts) whole' seconds .config);
+            ∙ sym (pulsed-sequel w other (p .right .facts) whole' seconds .config);
         domain =
-            pulsed-domain v lent (p .left .facts) whole seconds a
+            pulsed-domain v call (p .left .facts) whole seconds a
             ∙ p .alike .domain
-            ∙ sym (pulsed-domain w lent (p .right .facts) whole' seconds a);
+            ∙ sym (pulsed-domain w other (p .right .facts) whole' seconds a);
         views = λ q.
-            pulsed-view v lent (p .left .facts) whole seconds a q
+            pulsed-view v call (p .left .facts) whole seconds a q
             ∙ p .alike .views (λ h. q (aged seconds h))
-            ∙ sym (pulsed-view w lent (p .right .facts) whole' seconds a q);
+            ∙ sym (pulsed-view w other (p .right .facts) whole' seconds a q);
       }
 
-  pub pulse-twin : (seconds : ℕ) → Twin a v w lent (Pulse seconds) (Pulse seconds)
+  pub pulse-twin : Twin a v w (call asking Pulse seconds) (other asking Pulse seconds)
   unfolding effect
-  pulse-twin seconds = record {
+  pulse-twin = record {
     reading = refl;
-    verdicts = pulse-verdicts seconds;
-    after = λ e f. pulse-after seconds;
-    telling = λ e f bytes other x y. rw (x, y);
+    verdicts = pulse-verdicts;
+    after = λ e f. pulse-after;
+    telling = λ e f bytes others x y. rw (x, y);
   }

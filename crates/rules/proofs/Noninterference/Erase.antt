@@ -1,5 +1,5 @@
 -- The same Erase in two drives that the domain cannot tell apart: of FFFFFFFFh, or of a block that it holds.
-use Prim.Native.Nat.{ℕ, _≤_}
+use Prim.Native.Nat.{ℕ, _≤_, _<_}
 use mathlib.Core.Bool.{Bool, true, false, _||_, cond}
 use mathlib.Core.List.{List, [], _∷_, map}
 use mathlib.Core.Option.{some}
@@ -9,42 +9,51 @@ use lib.Dec.{eqb}
 use borrow.Author.Tests.{eq-eqb, eqb-true, ltb-true, ne-eqb}
 use Rattle.geometry.proofs.Laws.Shape.{by-test}
 use Rattle.geometry.specs.Address.{isBlock}
+use Rattle.geometry.specs.declared.shape.Config.{Config}
+use Rattle.model.specs.declared.block.Way.{Way}
 use Rattle.model.specs.declared.block.Way.the-variants as way
 use Rattle.model.specs.declared.command.Command.the-variants.{Erase}
 use Rattle.model.specs.declared.table.Table.{Table}
 use Rattle.rules.specs.Blocks.{anyBlock, chosenBlock, erasedBlock, freedAt, openedFor}
+use Rattle.rules.specs.Calls.{Call, _asking_}
 use Rattle.rules.specs.Counting.{implies}
 use Rattle.rules.specs.Drive.{Drive, blockAt, heldBy, isClosed, isClosedState, isFree, size}
 use Rattle.rules.specs.Effects.{Effect, effect, verdict}
-use Rattle.rules.specs.Noninterference.{erasesOwn}
-use Rattle.rules.specs.Observation.{Bytes, Holding, Observation, Words, holdingAt, nameOf, serialAt}
-use Rattle.rules.specs.Questions.{Lengths, coveredAfter, isErasable, isErasedAgain, mayErase, newOfErase, questions, withinQuota}
+use Rattle.rules.specs.Noninterference.{namesOwn}
+use Rattle.rules.specs.Observation.{Holding, Holds, Name, Observation, ReadBytes, ReadValues, ReadWords, holdingAt, nameOf}
+use Rattle.rules.specs.Questions.{coveredAfter, isErasable, isErasedAgain, mayErase, newOfErase, questions, withinQuota}
 use Rattle.rules.proofs.Kept.Calls.{course-fit}
+use Rattle.rules.proofs.Kept.Changes.{Openable, opened-changed, opened-held}
 use Rattle.rules.proofs.Kept.Erasing.{again-is, again-opens, any-opens}
 use Rattle.rules.proofs.Kept.Fit.{Fit}
 use Rattle.rules.proofs.Kept.OneBlock.{few-blocks}
 use Rattle.rules.proofs.Kept.Views.{Alike}
 use Rattle.rules.proofs.Noninterference.Blocks.{blockTold, freed-alike, opened-alike, opened-same}
-use Rattle.rules.proofs.Noninterference.Common.{Pair, covered-same, exists-same, fits-same, holding-same, inside-other, inside-same, may-open-same, number-same, own-other, quota-same, serials-same, sound-same}
+use Rattle.rules.proofs.Noninterference.Common.{Pair, covered-same, first-same, holding-same, inside-other, inside-same, may-open-same, number-same, own-other, quota-same, same-name, serials-same}
 use Rattle.rules.proofs.Noninterference.Twins.{Twin, ask-same}
 use Rattle.rules.proofs.Questions.{answered-yes}
 
 -- What an effect that opens a block is told as.
-abbrev toldOf : Effect → List ℕ → Observation
-toldOf x bytes = record {
+abbrev toldOf : ℕ → Effect → List ℕ → Observation
+toldOf a x bytes = record {
   number = 0;
-  serials = map (serialAt (x .drive)) (x .values);
-  words = Words.plain (x .words);
-  bytes = Bytes.plain bytes;
+  values = ReadValues.blocks (map (nameOf a (x .drive)) (x .values));
+  words = ReadWords.plain (x .words);
+  bytes = ReadBytes.plain bytes;
 }
 
 abbrev freeing : Drive → ℕ → Drive
 freeing v n = record { table = freedAt n (v .table); store = v .store }
 
+-- A block that was opened is held.
+opens-held : {d n : ℕ} {v : Drive} → Openable d n v → (way : Way) → Holds d (openedFor d way n v) n
+opens-held {d} {n} {v} o way =
+    (subst (λ (c : Config). n < c .blocks) (sym (opened-changed o way .config)) (o .inside), opened-held o way)
+
 -- ---- The questions
 
-module _ {a : ℕ} {v w : Drive} (p : Pair a v w) (lent : Lengths) (n m : ℕ) (same : nameOf a v n ≡ nameOf a w m)
-    (own : erasesOwn a v (Erase a n) ≡ true) where
+module _ {a : ℕ} {v w : Drive} (p : Pair a v w) (call : Call) (n m : ℕ) (same : nameOf a v n ≡ nameOf a w m)
+    (own : namesOwn a v (Erase a n) ≡ true) where
   abbrev t : Table
   t = v .table
 
@@ -115,13 +124,9 @@ module _ {a : ℕ} {v w : Drive} (p : Pair a v w) (lent : Lengths) (n m : ℕ) (
   new-same : isErasable t n ≡ true → newOfErase t a n ≡ newOfErase u a m
   new-same range = ap (λ (b : Bool). cond b 0 1) (again-same range)
 
-  erase-verdicts : verdict v lent (Erase a n) ≡ verdict w lent (Erase a m)
-  unfolding questions
+  erase-verdicts : verdict v (call asking Erase a n) ≡ verdict w (call asking Erase a m)
   erase-verdicts =
-      ask-same _ _ _ _ _ (sound-same p) (λ e2.
-      ask-same _ _ _ _ _ (fits-same p lent) (λ e3.
-      ask-same _ _ _ _ _ refl (λ e4.
-      ask-same _ _ _ _ _ (exists-same p) (λ e5.
+      first-same p call (Erase a n) (Erase a m) refl refl refl (λ e5.
       ask-same _ _ _ _ _ range-same (λ e6.
       ask-same _ _ _ _ _ (may-same e6) (λ e9.
       ask-same _ _ _ _ _ (closed-same e6) (λ e10.
@@ -129,14 +134,14 @@ module _ {a : ℕ} {v w : Drive} (p : Pair a v w) (lent : Lengths) (n m : ℕ) (
       ask-same _ _ _ _ _ (serials-same p 1) (λ e12.
       ask-same _ _ _ _ _ (quota-same p (newOfErase t a n) ∙ ap (λ (k : ℕ). withinQuota u a k) (new-same e6)) (λ e13.
       ask-same _ _ _ _ _ (covered-same p (newOfErase t a n) e5 e13 ∙ ap (λ (k : ℕ). coveredAfter u a k) (new-same e6)) (λ e14.
-      refl)))))))))))
+      refl))))))))
 
   -- ---- What is left and told
 
   abbrev opensBlock : Drive → ℕ → Effect
   opensBlock x k = record { drive = openedFor a way.Erase k x; values = k ∷ []; words = [] }
 
-  erase-opens : (x : Drive) (k j : ℕ) → erasedBlock (x .table) k ≡ some j → effect (Erase a k) x ≡ opensBlock x j
+  erase-opens : (x : Drive) (k j : ℕ) → erasedBlock (x .table) k ≡ some j → effect x (call asking Erase a k) ≡ opensBlock x j
   unfolding effect
   erase-opens x k j e = rw e
 
@@ -146,62 +151,66 @@ module _ {a : ℕ} {v w : Drive} (p : Pair a v w) (lent : Lengths) (n m : ℕ) (
   erased-named : (x : Drive) (k : ℕ) → size (x .table) ≤ 256 → isBlock (x .table .config) k ≡ true → erasedBlock (x .table) k ≡ some k
   erased-named x k few inside = rw (not-any x k few inside)
 
-  fit-left : Fit v lent
-  fit-left = course-fit (p .left) lent
+  fit-left : Fit v call
+  fit-left = course-fit (p .left) call
 
-  fit-right : Fit w lent
-  fit-right = course-fit (p .right) lent
+  fit-right : Fit w call
+  fit-right = course-fit (p .right) call
 
   -- Both open a block, with the same holding, and are alike afterwards.
   record Opened (x y : Effect) : Type 0 where
     alike : Alike a (x .drive) (y .drive)
-    told-same : (bytes other : List ℕ) → bytes ≡ [] → other ≡ [] → toldOf x bytes ≡ toldOf y other
+    told-same : (bytes other : List ℕ) → bytes ≡ [] → other ≡ [] → toldOf a x bytes ≡ toldOf a y other
 
-  opened-effects : (k j : ℕ) → Alike a (openedFor a way.Erase k v) (openedFor a way.Erase j w)
+  opened-effects : (k j : ℕ) → Holds a (openedFor a way.Erase k v) k → Holds a (openedFor a way.Erase j w) j → Alike a (openedFor a way.Erase k v) (openedFor a way.Erase j w)
       → holdingAt (openedFor a way.Erase k v) k ≡ holdingAt (openedFor a way.Erase j w) j
       → Opened (opensBlock v k) (opensBlock w j)
-  opened-effects k j s h = record {
+  opened-effects k j x y s h = record {
     alike = s;
-    told-same = λ bytes other b o. rw (b, o) (ap (λ (x : Holding). blockTold (x .serial)) h);
+    told-same = λ bytes other b o.
+        rw (b, o) (ap (λ (z : Name). blockTold z)
+        (same-name a (openedFor a way.Erase k v) (openedFor a way.Erase j w) k j x y (ap (λ (z : Holding). z .serial) h)));
   }
 
-  module _ (e : verdict v lent (Erase a n) ≡ 0) (f : verdict w lent (Erase a m) ≡ 0) where
+  module _ (e : verdict v (call asking Erase a n) ≡ 0) (f : verdict w (call asking Erase a m) ≡ 0) where
     free-alike : isBlock (t .config) n ≡ true → heldBy a (blockAt t n) ≡ true → Alike a (freeing v n) (freeing w m)
     unfolding effect
-    free-alike inside h = freed-alike p lent n m same inside h
+    free-alike inside h = freed-alike p call n m same inside h
 
-    any-opened : n ≡ anyBlock → m ≡ anyBlock → Opened (effect (Erase a n) v) (effect (Erase a m) w)
+    any-opened : n ≡ anyBlock → m ≡ anyBlock → Opened (effect v (call asking Erase a n)) (effect w (call asking Erase a m))
     any-opened at at' =
-        let x = any-opens v lent fit-left a n e at in
-        let y = any-opens w lent fit-right a m f at' in
-        subst (λ (z : Effect). Opened z (effect (Erase a m) w)) (sym (erase-opens v n (x .0) (erased-any t n (x .0) at (x .1))))
+        let x = any-opens v call fit-left a n e at in
+        let y = any-opens w call fit-right a m f at' in
+        subst (λ (z : Effect). Opened z (effect w (call asking Erase a m))) (sym (erase-opens v n (x .0) (erased-any t n (x .0) at (x .1))))
         (subst (Opened (opensBlock v (x .0))) (sym (erase-opens w m (y .0) (erased-any u m (y .0) at' (y .1))))
-        (opened-effects (x .0) (y .0) (opened-alike (p .alike) (x .2 .block) (y .2 .block) way.Erase) (opened-same (p .alike) (x .2 .block) (y .2 .block) way.Erase)))
+        (opened-effects (x .0) (y .0) (opens-held (x .2 .block) way.Erase) (opens-held (y .2 .block) way.Erase) (opened-alike (p .alike) (x .2 .block) (y .2 .block) way.Erase) (opened-same (p .alike) (x .2 .block) (y .2 .block) way.Erase)))
 
-    named-opened : isBlock (t .config) n ≡ true → Opened (effect (Erase a n) v) (effect (Erase a m) w)
+    named-opened : isBlock (t .config) n ≡ true → Opened (effect v (call asking Erase a n)) (effect w (call asking Erase a m))
     named-opened inside =
         let h = named-held inside in
         let inside' = inside-other p n m same inside in
         let h' = own-other p n m same inside h in
-        let x = again-opens v lent fit-left a n e (not-any v n (few-blocks (p .left .facts)) inside) h in
-        let y = again-opens w lent fit-right a m f (not-any w m (few-blocks (p .right .facts)) inside') h' in
+        let x = again-opens v call fit-left a n e (not-any v n (few-blocks (p .left .facts)) inside) h in
+        let y = again-opens w call fit-right a m f (not-any w m (few-blocks (p .right .facts)) inside') h' in
         let freed = free-alike inside h in
-        let i = again-is v lent fit-left a n e (not-any v n (few-blocks (p .left .facts)) inside) h in
-        let j = again-is w lent fit-right a m f (not-any w m (few-blocks (p .right .facts)) inside') h' in
-        subst (λ (z : Effect). Opened z (effect (Erase a m) w)) (sym (erase-opens v n n (erased-named v n (few-blocks (p .left .facts)) inside)))
+        let i = again-is v call fit-left a n e (not-any v n (few-blocks (p .left .facts)) inside) h in
+        let j = again-is w call fit-right a m f (not-any w m (few-blocks (p .right .facts)) inside') h' in
+        subst (λ (z : Effect). Opened z (effect w (call asking Erase a m))) (sym (erase-opens v n n (erased-named v n (few-blocks (p .left .facts)) inside)))
         (subst (Opened (opensBlock v n)) (sym (erase-opens w m m (erased-named w m (few-blocks (p .right .facts)) inside')))
         (opened-effects n m
+        (subst (λ (z : Drive). Holds a z n) i (opens-held (x .block) way.Erase))
+        (subst (λ (z : Drive). Holds a z m) j (opens-held (y .block) way.Erase))
         (subst (λ (z : Drive). Alike a z (openedFor a way.Erase m w)) i
         (subst (λ (z : Drive). Alike a (openedFor a way.Erase n (freeing v n)) z) j (opened-alike freed (x .block) (y .block) way.Erase)))
         (subst (λ (z : Drive). holdingAt z n ≡ holdingAt (openedFor a way.Erase m w) m) i
         (subst (λ (z : Drive). holdingAt (openedFor a way.Erase n (freeing v n)) n ≡ holdingAt z m) j (opened-same freed (x .block) (y .block) way.Erase)))))
 
-    erase-opened : Opened (effect (Erase a n) v) (effect (Erase a m) w)
+    erase-opened : Opened (effect v (call asking Erase a n)) (effect w (call asking Erase a m))
     unfolding questions
     erase-opened =
-        by-name (answered-yes v lent (Erase a n) 4 e) named-opened (λ at at' out. any-opened at at')
+        by-name (answered-yes v (call asking Erase a n) 6 e) named-opened (λ at at' out. any-opened at at')
 
-  pub erase-twin : Twin a v w lent (Erase a n) (Erase a m)
+  pub erase-twin : Twin a v w (call asking Erase a n) (call asking Erase a m)
   erase-twin = record {
     reading = refl;
     verdicts = erase-verdicts;

@@ -3,20 +3,21 @@
 use Prim.Native.Nat.{ℕ, _≤_}
 use mathlib.Core.Bool.{Bool, true, false, true≢false, _||_}
 use mathlib.Core.List.{List, [], _∷_, nil≢cons}
-use mathlib.Core.Path.{_≡_, refl, sym, ap, ap₂, subst}
+use mathlib.Core.Path.{_≡_, refl, sym, ap, ap₂}
 use lib.Dec.{eqb}
 use borrow.Author.Tests.{eqb-false}
 use Rattle.geometry.proofs.Laws.Shape.{both, by-test}
+use Rattle.rules.specs.Calls.{Call, isPulse, ownDomain}
 use Rattle.rules.specs.Drive.{Drive}
-use Rattle.rules.specs.Noninterference.{Exchange, Replied, calls, erasesOwn, fullyReserved, inputs, notUncovered, observations, reservesAll, staysReserved}
-use Rattle.rules.specs.Observation.{Input, Replies, Reply, concerns, inputOf, isPulse, observed}
-use Rattle.rules.specs.Questions.{Lengths}
-use Rattle.rules.specs.Runs.{Call, ownDomain, run, step}
+use Rattle.rules.specs.Effects.{step}
+use Rattle.rules.specs.Noninterference.{Exchange, Replied, calls, namesOwn, fullyReserved, inputs, notUncovered, observations, reservesAll, staysReserved}
+use Rattle.rules.specs.Observation.{Input, Replies, concerns, inputOf, observed}
+use Rattle.rules.specs.Runs.{run}
 use Rattle.rules.proofs.Kept.Calls.{Course, course-fit, course-step, own-sequel}
 use Rattle.rules.proofs.Kept.Views.{Alike, alike-back, alike-then}
 use Rattle.rules.proofs.Noninterference.Common.{Pair}
 use Rattle.rules.proofs.Noninterference.Requests.{Proper, same-twins}
-use Rattle.rules.proofs.Noninterference.Twins.{Twin, twin-alike, twin-observed}
+use Rattle.rules.proofs.Noninterference.Twins.{twin-alike, twin-observed}
 
 -- ---- A neighbour's call
 
@@ -27,13 +28,13 @@ either false c e = (refl, e)
 neighbour : (a : ℕ) (k : Call) (v : Drive) → 1 ≤ a → Course v → concerns a (k .command) ≡ false → Alike a v (step k v)
 neighbour a k v low c e =
     let x = either (isPulse (k .command)) (eqb (ownDomain (k .command)) a) e in
-    own-sequel v (k .lent) (course-fit c (k .lent)) (k .command) (x .0) .others a low
+    own-sequel v k (course-fit c k) (x .0) .others a low
     (λ same. eqb-false (ownDomain (k .command)) a (x .1) (sym same))
 
 -- ---- What is asked of a list, call by call
 
 record Begins (a : ℕ) (x : Exchange) (xs : List Exchange) (v : Drive) : Type 0 where
-  proper : Proper a v (x .call .lent) (x .call .command)
+  proper : Proper a v (x .call)
   reserves : reservesAll a (step (x .call) v) ≡ true
   rest : fullyReserved a (calls xs) (step (x .call) v) ≡ true
 
@@ -44,7 +45,7 @@ begins a x xs v e =
     let e1 = both _ (fullyReserved a (calls xs) (step k v)) e in
     let e2 = both _ (staysReserved a v (step k v)) (e1 .0) in
     let e3 = both _ (reservesAll a (step k v)) (e2 .0) in
-    let e4 = both (notUncovered a v k) (erasesOwn a v (k .command)) (e3 .0) in
+    let e4 = both (notUncovered a v k) (namesOwn a v (k .command)) (e3 .0) in
     record {
       proper = record { covered = e4 .0; names = e4 .1; stays = e2 .1 };
       reserves = e3 .1;
@@ -79,15 +80,6 @@ pub record Result (a : ℕ) (xs ys : List Exchange) (v w : Drive) : Type 0 where
 first-reply : (x : Exchange) (xs : List Exchange) (v : Drive) → Replied (x ∷ xs) v → Replies v (x .call) (x .reply)
 unfolding Replied
 first-reply x xs v r = r .0
-
-twin-calls : {a : ℕ} {v w : Drive} (k l : Call) → Alike a v w → k .lent ≡ l .lent → Twin a v w (k .lent) (k .command) (l .command)
-    → Alike a (step k v) (step l w) × ((r s : Reply) → Replies v k r → Replies w l s → observed v k r ≡ observed w l s)
-twin-calls {a} {v} {w} k l alike e twin =
-    subst (λ (z : Lengths).
-    Alike a (step k v) (step (record { command = l .command; lent = z }) w)
-    × ((r s : Reply) → Replies v k r → Replies w (record { command = l .command; lent = z }) s
-    → observed v k r ≡ observed w (record { command = l .command; lent = z }) s)) e
-    (twin-alike (k .lent) (k .command) (l .command) alike twin, twin-observed (k .lent) (k .command) (l .command) alike twin)
 
 -- ---- The induction
 
@@ -146,19 +138,15 @@ module _ (a : ℕ) (low : 1 ≤ a) (high : a ≤ 16) where
     met : (y : Exchange) (ys : List Exchange) (w : Drive) → Alike a v w → Given a (y ∷ ys) w → concerns a (y .call .command) ≡ true
         → here ≡ inputOf a w (y .call)
         → later ≡ inputs a (calls ys) (step (y .call) w)
-        → (observed v (x .call) (x .reply) ≡ observed w (y .call) (y .reply)) × Result a xs ys (step (x .call) v) (step (y .call) w)
+        → (observed a v (x .call) (x .reply) ≡ observed a w (y .call) (y .reply)) × Result a xs ys (step (x .call) v) (step (y .call) w)
     met y ys w s h own' same after =
-        let e = ap (λ (z : Input). z .lent) same in
         let b = begins a x xs v (g .reserved) in
         let b' = begins a y ys w (h .reserved) in
         let p = pair v w s (g .course) (h .course) (g .reserves) (h .reserves) in
-        let twin =
-        same-twins p (x .call .lent) (x .call .command) (y .call .command) (b .proper)
-        (subst (λ (z : Lengths). Proper a w z (y .call .command)) (sym e) (b' .proper))
-        own own' (ap (λ (z : Input). z .request) same) in
-        let r = twin-calls (x .call) (y .call) s e twin in (
-          r .1 (x .reply) (y .reply) (first-reply x xs v (g .replied)) (first-reply y ys w (h .replied)),
-          on ys (step (y .call) w) (r .0) (given-next a y ys w h) after,
+        let twin = same-twins p (x .call) (y .call) (b .proper) (b' .proper) own own' same in (
+          twin-observed (x .call) (y .call) s twin (x .reply) (y .reply)
+              (first-reply x xs v (g .replied)) (first-reply y ys w (h .replied)),
+          on ys (step (y .call) w) (twin-alike (x .call) (y .call) s twin) (given-next a y ys w h) after,
         )
 
     next-input : (ys : List Exchange) (w : Drive) → Alike a v w → Given a ys w → here ∷ later ≡ inputs a (calls ys) w

@@ -10,11 +10,13 @@ use Rattle.geometry.proofs.Laws.Shape.{both, by-test, is-between}
 use Rattle.geometry.specs.Address.{isDomainId}
 use Rattle.geometry.specs.Shape.{storeLength, withinLimits}
 use Rattle.geometry.specs.declared.shape.Config.{Config}
+use Rattle.rules.specs.Calls.{Call}
 use Rattle.rules.specs.Claims.{Guaranteed}
 use Rattle.rules.specs.Drive.{Drive, blockAt, heldBy}
+use Rattle.rules.specs.Effects.{step}
 use Rattle.rules.specs.Noninterference.{Exchange, Indistinguishable, Replied, calls, fullyReserved, inputs, isAllowed, reservesAll}
 use Rattle.rules.specs.Observation.{Input, concerns, inputOf}
-use Rattle.rules.specs.Runs.{Call, begun, reference, step}
+use Rattle.rules.specs.Runs.{begun, reference}
 use Rattle.rules.specs.Soundness.{sound}
 use Rattle.rules.specs.Start.{emptyTable}
 use Rattle.rules.proofs.Kept.Calls.{Course, course-run}
@@ -41,6 +43,9 @@ empty-course c store e l = record {
   shaped = record { domains = refl; blocks = refl };
   store = l;
 }
+
+pub begun-config : (c : Config) (store : List ℕ) → withinLimits c ≡ true → begun c store .table .config ≡ c
+begun-config c store e = ap (λ (v : Drive). v .table .config) (begun-empty c store e)
 
 pub begun-course : (c : Config) (store : List ℕ) → withinLimits c ≡ true → length store ≡ storeLength c .0 → Course (begun c store)
 begun-course c store e l = subst Course (sym (begun-empty c store e)) (empty-course c store e l)

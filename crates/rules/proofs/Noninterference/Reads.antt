@@ -1,37 +1,34 @@
 -- The same Read, Page or List in two drives that the domain cannot tell apart.
-use Prim.Native.Nat.{ℕ, _+_, _*_, _≤_, _<_}
+use Prim.Native.Nat.{ℕ, _+_, _*_, _<_}
 use mathlib.Core.Bool.{Bool, true, _&&_}
 use mathlib.Core.List.{List, []}
 use mathlib.Core.Path.{_≡_, refl, sym, ap, ap₂, _∙_}
 use native.Mathlib.Omega.{arith}
 use lib.Dec.{eqb, leb}
-use lib.ListN.{List·getD-eq-default, drop, take}
+use lib.ListN.{drop, take}
 use borrow.Author.Tests.{leb-true, ltb-true}
 use Rattle.geometry.proofs.Laws.Shape.{both}
 use Rattle.geometry.specs.Address.{fieldsOf, isBlock, isOffset}
-use Rattle.geometry.specs.Shape.{adusPerBlock}
 use Rattle.geometry.specs.declared.address.FlashAddress.{FlashAddress}
 use Rattle.geometry.specs.declared.shape.Adus.{Adus}
 use Rattle.geometry.specs.declared.shape.Config.{Config}
-use Rattle.model.specs.declared.block.Block.{Block}
-use Rattle.model.specs.declared.block.State.{State}
-use Rattle.model.specs.declared.block.State.the-variants as state
 use Rattle.model.specs.declared.command.Command.the-variants.{List as Listing, Page, Read}
 use Rattle.model.specs.declared.command.Listed.{Listed}
 use Rattle.model.specs.declared.command.Listed.the-variants as listed
-use Rattle.model.specs.declared.table.Table.{Table}
 use Rattle.rules.specs.Blocks.{matches, stored}
-use Rattle.rules.specs.Drive.{Drive, blockAt, clearBlock, heldBy, size}
+use Rattle.rules.specs.Calls.{Call, _asking_, listBytes}
+use Rattle.rules.specs.Drive.{Drive, blockAt, heldBy, size}
 use Rattle.rules.specs.Effects.{Fills, effect, verdict}
 use Rattle.rules.specs.LogPages.{listedCount, page}
-use Rattle.rules.specs.Observation.{Bytes, Descriptor, Holding, Observation, Words, entriesOf, holdingAt, nameOf, readList, readPage, serialAt, timesListed}
-use Rattle.rules.specs.Questions.{Lengths, isCount, isHeld, questions}
+use Rattle.rules.specs.Observation.{Descriptor, Holding, Observation, ReadBytes, ReadValues, ReadWords, entriesOf, holdingAt, nameOf}
+use Rattle.rules.specs.Observation.{readList, readPage, timesListed}
+use Rattle.rules.specs.Questions.{isCount, isHeld, questions}
 use Rattle.rules.proofs.Kept.Calls.{Course}
 use Rattle.rules.proofs.Kept.Entries.{stored-entries}
-use Rattle.rules.proofs.Kept.Facts.{StateFacts}
+use Rattle.rules.proofs.Kept.Facts.{written-most}
 use Rattle.rules.proofs.Kept.OneBlock.{few-blocks, open-alike}
 use Rattle.rules.proofs.Kept.Views.{Alike, closed-view, ifClosed}
-use Rattle.rules.proofs.Noninterference.Common.{Pair, exists-same, fits-same, holding-same, inside-other, inside-same, own-other, own-same, sound-same}
+use Rattle.rules.proofs.Noninterference.Common.{Pair, first-same, holding-same, inside-other, inside-same, own-other, own-same}
 use Rattle.rules.proofs.Noninterference.Readings.{closed-read, open-read, page-read}
 use Rattle.rules.proofs.Noninterference.Twins.{Twin, ask-same, told}
 use Rattle.rules.proofs.Questions.{answered-yes}
@@ -39,19 +36,7 @@ use Rattle.rules.proofs.Writes.{Ready}
 
 -- ---- A drive in the course of a list of calls
 
--- No block has more written than it holds.
-pub written-most : (t : Table) (s : State) (b : Block) → StateFacts t s b → b .written .0 ≤ adusPerBlock (t .config) .0
-written-most t state.Free b f = omega (arith, f .written)
-written-most t (state.Open way) b f = omega (arith, f .written)
-written-most t (state.Closed way) b f = f .written
-
 module _ (v : Drive) (c : Course v) where
-  -- The end mark of a list names no block.
-  end-serial : serialAt v 4294967295 ≡ 0
-  end-serial =
-      ap (λ (b : Block). b .serial)
-      (List·getD-eq-default (v .table .blocks) clearBlock {n = 4294967295} (omega (arith, c .shaped .blocks)))
-
   course-ready : Ready (v .table .config) v
   course-ready = record { shape = refl; blocks = omega (arith, c .shaped .blocks, few-blocks (c .facts)); store = c .store }
 
@@ -69,50 +54,48 @@ module _ (v : Drive) (c : Course v) where
         written-most (v .table) (b .state) b (c .facts .blocks (f .block) here),
       ))
 
--- What a Page, a List and a Read are told as.
-abbrev pageTold : List ℕ → Observation
-pageTold bytes = record { number = 0; serials = []; words = Words.plain []; bytes = Bytes.page bytes }
-
-abbrev listTold : (Descriptor → ℕ) → Observation
-listTold times = record { number = 0; serials = []; words = Words.plain []; bytes = Bytes.set times }
+-- What a Page and a List, and a Read, are told as.
+abbrev bytesTold : ReadBytes → Observation
+bytesTold bytes = record { number = 0; values = ReadValues.numbers []; words = ReadWords.plain []; bytes = bytes }
 
 abbrev wordsTold : List ℕ → Observation
-wordsTold words = record { number = 0; serials = []; words = Words.plain words; bytes = Bytes.plain [] }
+wordsTold words = record { number = 0; values = ReadValues.numbers []; words = ReadWords.plain words; bytes = ReadBytes.plain [] }
 
-module _ {a : ℕ} {v w : Drive} (p : Pair a v w) (lent : Lengths) where
+module _ {a : ℕ} {v w : Drive} (p : Pair a v w) (call : Call) where
   -- ---- Page
 
   module _ (n m : ℕ) (same : nameOf a v n ≡ nameOf a w m) where
-    page-verdicts : verdict v lent (Page a n) ≡ verdict w lent (Page a m)
-    unfolding questions
+    page-verdicts : verdict v (call asking Page a n) ≡ verdict w (call asking Page a m)
     page-verdicts =
-        ask-same _ _ _ _ _ (sound-same p) (λ e2.
-        ask-same _ _ _ _ _ refl (λ e4.
-        ask-same _ _ _ _ _ (exists-same p) (λ e5.
+        first-same p call (Page a n) (Page a m) refl refl refl (λ e5.
         ask-same _ _ _ _ _ (inside-same p n m same) (λ e6.
         ask-same _ _ _ _ _ refl (λ e7.
-        ask-same _ _ _ _ _ (own-same p n m same e6) (λ e9. refl))))))
+        ask-same _ _ _ _ _ (own-same p n m same e6) (λ e9. refl))))
 
-    page-alike : Alike a (effect (Page a n) v .drive) (effect (Page a m) w .drive)
+    page-alike : Alike a (effect v (call asking Page a n) .drive) (effect w (call asking Page a m) .drive)
     unfolding effect
     page-alike = p .alike
 
     pages-same : isBlock (v .table .config) n ≡ true → heldBy a (blockAt (v .table) n) ≡ true
-        → readPage v (page (v .table) n) ≡ readPage w (page (w .table) m)
+        → readPage a v (page (v .table .config) n (blockAt (v .table) n))
+        ≡ readPage a w (page (w .table .config) m (blockAt (w .table) m))
     pages-same inside own =
         page-read a v w n m (p .alike) (few-blocks (p .left .facts))
-        (ltb-true n (size (v .table)) inside) (ltb-true m (size (w .table)) (inside-other p n m same inside))
-        own (own-other p n m same inside own) (holding-same p n m same inside own)
+        (ltb-true n (size (v .table)) inside, own)
+        (ltb-true m (size (w .table)) (inside-other p n m same inside), own-other p n m same inside own)
+        (holding-same p n m same inside own)
 
-    page-told : verdict v lent (Page a n) ≡ 0 → (bytes other : List ℕ) → bytes ≡ page (v .table) n → other ≡ page (w .table) m
-        → told v (Page a n) bytes ≡ told w (Page a m) other
+    page-told : verdict v (call asking Page a n) ≡ 0 → (bytes other : List ℕ)
+        → bytes ≡ page (v .table .config) n (blockAt (v .table) n)
+        → other ≡ page (w .table .config) m (blockAt (w .table) m)
+        → told a v (call asking Page a n) bytes ≡ told a w (call asking Page a m) other
     unfolding effect questions
     page-told e bytes other b o =
         rw (b, o)
-        (ap (λ (l : List ℕ). pageTold l)
-        (pages-same (answered-yes v lent (Page a n) 3 e) (answered-yes v lent (Page a n) 5 e)))
+        (ap (λ (x : ReadBytes). bytesTold x)
+        (pages-same (answered-yes v (call asking Page a n) 6 e) (answered-yes v (call asking Page a n) 9 e)))
 
-  pub page-twin : (n m : ℕ) → nameOf a v n ≡ nameOf a w m → Twin a v w lent (Page a n) (Page a m)
+  pub page-twin : (n m : ℕ) → nameOf a v n ≡ nameOf a w m → Twin a v w (call asking Page a n) (call asking Page a m)
   page-twin n m same = record {
     reading = refl;
     verdicts = page-verdicts n m same;
@@ -126,32 +109,28 @@ module _ {a : ℕ} {v w : Drive} (p : Pair a v w) (lent : Lengths) where
   listed-same listed.Open = open-alike (p .alike)
   listed-same listed.Closed = closed-view v a ∙ p .alike .views ifClosed ∙ sym (closed-view w a)
 
-  list-verdicts : (which : Listed) → verdict v lent (Listing a which) ≡ verdict w lent (Listing a which)
-  unfolding questions
+  list-verdicts : (which : Listed) → verdict v (call asking Listing a which) ≡ verdict w (call asking Listing a which)
   list-verdicts which =
-      ask-same _ _ _ _ _ (sound-same p) (λ e2.
-      ask-same _ _ _ _ _ refl (λ e4.
-      ask-same _ _ _ _ _ (exists-same p) (λ e5.
-      ask-same _ _ _ _ _ (ap (λ (k : ℕ). leb (8 * (k + 1)) (lent .bytes)) (listed-same which)) (λ e7. refl))))
+      first-same p call (Listing a which) (Listing a which) refl refl refl (λ e5.
+      ask-same _ _ _ _ _ (ap (λ (k : ℕ). leb (8 * (k + 1)) (call .lent .bytes)) (listed-same which)) (λ e7. refl))
 
-  list-alike : (which : Listed) → Alike a (effect (Listing a which) v .drive) (effect (Listing a which) w .drive)
+  list-alike : (which : Listed) → Alike a (effect v (call asking Listing a which) .drive) (effect w (call asking Listing a which) .drive)
   unfolding effect
   list-alike which = p .alike
 
-  lists-same : (which : Listed) (bytes other : List ℕ) → Fills (Listing a which) (v .table) bytes
-      → Fills (Listing a which) (w .table) other → timesListed (readList v bytes) ≡ timesListed (readList w other)
-  lists-same listed.Open bytes other b o =
-      open-read a v w bytes other (p .alike) (few-blocks (p .left .facts)) (end-serial v (p .left)) (end-serial w (p .right)) b o
-  lists-same listed.Closed bytes other b o =
-      rw (b, o)
-      (closed-read a v w (p .alike) (few-blocks (p .left .facts)) (end-serial v (p .left)) (end-serial w (p .right)))
+  lists-same : (which : Listed) (bytes other : List ℕ) → Fills (listBytes a which) (v .table) bytes
+      → Fills (listBytes a which) (w .table) other → timesListed (readList a v bytes) ≡ timesListed (readList a w other)
+  lists-same listed.Open bytes other b o = open-read a v w bytes other (p .alike) (few-blocks (p .left .facts)) b o
+  lists-same listed.Closed bytes other b o = rw (b, o) (closed-read a v w (p .alike) (few-blocks (p .left .facts)))
 
-  list-told : (which : Listed) (bytes other : List ℕ) → Fills (Listing a which) (v .table) bytes
-      → Fills (Listing a which) (w .table) other → told v (Listing a which) bytes ≡ told w (Listing a which) other
+  list-told : (which : Listed) (bytes other : List ℕ) → Fills (listBytes a which) (v .table) bytes
+      → Fills (listBytes a which) (w .table) other
+      → told a v (call asking Listing a which) bytes ≡ told a w (call asking Listing a which) other
   unfolding effect
-  list-told which bytes other b o = ap (λ (times : Descriptor → ℕ). listTold times) (lists-same which bytes other b o)
+  list-told which bytes other b o =
+      ap (λ (times : Descriptor → ℕ). bytesTold (ReadBytes.list times)) (lists-same which bytes other b o)
 
-  pub list-twin : (which : Listed) → Twin a v w lent (Listing a which) (Listing a which)
+  pub list-twin : (which : Listed) → Twin a v w (call asking Listing a which) (call asking Listing a which)
   list-twin which = record {
     reading = refl;
     verdicts = list-verdicts which;
@@ -208,13 +187,9 @@ module _ {a : ℕ} {v w : Drive} (p : Pair a v w) (lent : Lengths) where
             ∙ ap₂ (λ (o : Adus) (h : Holding). take (count .0) (drop (o .0) (h .entries))) offset one-holding
             ∙ sym (read-entries w (p .right) g count (inside-other p (f .block) (g .block) same inside) (sym written-same ∙ e))
 
-    read-verdicts : verdict v lent (Read a x count expected) ≡ verdict w lent (Read a y count expected)
-    unfolding questions
+    read-verdicts : verdict v (call asking Read a x count expected) ≡ verdict w (call asking Read a y count expected)
     read-verdicts =
-        ask-same _ _ _ _ _ (sound-same p) (λ e2.
-        ask-same _ _ _ _ _ (fits-same p lent) (λ e3.
-        ask-same _ _ _ _ _ refl (λ e4.
-        ask-same _ _ _ _ _ (exists-same p) (λ e5.
+        first-same p call (Read a x count expected) (Read a y count expected) refl refl refl (λ e5.
         ask-same _ _ _ _ _ range-same (λ e6.
         let inside = range-inside e6 in
         ask-same _ _ _ _ _ refl (λ e7.
@@ -222,22 +197,22 @@ module _ {a : ℕ} {v w : Drive} (p : Pair a v w) (lent : Lengths) where
         ask-same _ _ _ _ _ (held-same inside) (λ e9.
         let own = both (isHeld (v .table) a (f .block)) (eqb (f .domain) a) e9 .0 in
         ask-same _ _ _ _ _ (written-same inside own) (λ e15.
-        ask-same _ _ _ _ _ (ap (λ (l : List ℕ). matches expected l) (stored-same inside own e15)) (λ e16. refl))))))))))
+        ask-same _ _ _ _ _ (ap (λ (l : List ℕ). matches expected l) (stored-same inside own e15)) (λ e16. refl)))))))
 
-    read-alike : Alike a (effect (Read a x count expected) v .drive) (effect (Read a y count expected) w .drive)
+    read-alike : Alike a (effect v (call asking Read a x count expected) .drive) (effect w (call asking Read a y count expected) .drive)
     unfolding effect
     read-alike = p .alike
 
-    words-same : verdict v lent (Read a x count expected) ≡ 0 → stored v f (count .0) ≡ stored w g (count .0)
+    words-same : verdict v (call asking Read a x count expected) ≡ 0 → stored v f (count .0) ≡ stored w g (count .0)
     unfolding questions
     words-same e =
         let c = Read a x count expected in
-        stored-same (range-inside (answered-yes v lent c 4 e))
-        (both (isHeld (v .table) a (f .block)) (eqb (f .domain) a) (answered-yes v lent c 7 e) .0)
-        (answered-yes v lent c 8 e)
+        stored-same (range-inside (answered-yes v (call asking c) 6 e))
+        (both (isHeld (v .table) a (f .block)) (eqb (f .domain) a) (answered-yes v (call asking c) 9 e) .0)
+        (answered-yes v (call asking c) 15 e)
 
-    read-told : verdict v lent (Read a x count expected) ≡ 0 → (bytes other : List ℕ) → bytes ≡ [] → other ≡ []
-        → told v (Read a x count expected) bytes ≡ told w (Read a y count expected) other
+    read-told : verdict v (call asking Read a x count expected) ≡ 0 → (bytes other : List ℕ) → bytes ≡ [] → other ≡ []
+        → told a v (call asking Read a x count expected) bytes ≡ told a w (call asking Read a y count expected) other
     unfolding effect
     read-told e bytes other b o = rw (b, o) (ap (λ (l : List ℕ). wordsTold l) (words-same e))
 
@@ -245,7 +220,7 @@ module _ {a : ℕ} {v w : Drive} (p : Pair a v w) (lent : Lengths) where
       → nameOf a v (fieldsOf (v .table .config) x .block) ≡ nameOf a w (fieldsOf (w .table .config) y .block)
       → fieldsOf (v .table .config) x .domain ≡ fieldsOf (w .table .config) y .domain
       → fieldsOf (v .table .config) x .offset ≡ fieldsOf (w .table .config) y .offset
-      → Twin a v w lent (Read a x count expected) (Read a y count expected)
+      → Twin a v w (call asking Read a x count expected) (call asking Read a y count expected)
   read-twin x y count expected same domain offset = record {
     reading = refl;
     verdicts = read-verdicts x y count expected same domain offset;

@@ -2,20 +2,18 @@
 -- from it for the replies.
 use Prim.Native.Nat.{ℕ}
 use mathlib.Core.Bool.{Bool, true, false}
-use mathlib.Core.List.{List, [], _∷_, map}
-use mathlib.Core.Path.{_≡_, refl, sym, ap, _∙_, subst}
+use mathlib.Core.List.{List, [], _∷_}
+use mathlib.Core.Path.{_≡_, refl, sym, ap, ap₂, _∙_, subst}
 use lib.Dec.{eqb}
 use borrow.Author.Tests.{eqb-true}
 use Rattle.geometry.proofs.Laws.Shape.{by-test}
 use Rattle.geometry.specs.Questions.{Question, answered, ask, firstNo, refusal, success}
-use Rattle.model.specs.declared.command.Command.{Command}
+use Rattle.rules.specs.Calls.{BytesDue, Call, Profile, Values, WordsDue, addressWords, blocksAfter, blocksBefore, counts, listBytes}
+use Rattle.rules.specs.Calls.{noBytes, noWords, pageBytes, profile, userWords}
 use Rattle.rules.specs.Drive.{Drive}
-use Rattle.rules.specs.Effects.{Fills, FillsIf, accepted, driveAfter, effect, verdict, wordsFilled}
-use Rattle.rules.specs.Observation.{Bytes, Observation, Reading, Replies, Reply, Words, observed, readBytes, readIn, readPage, readWords, readingOf, serialAt, timesListed}
-use Rattle.rules.specs.Observation.{readDescriptors}
-use Rattle.rules.specs.Observation as seen
-use Rattle.rules.specs.Questions.{Lengths}
-use Rattle.rules.specs.Runs.{Call, step}
+use Rattle.rules.specs.Effects.{Fills, FillsIf, accepted, effect, step, verdict, wordsFilled}
+use Rattle.rules.specs.Observation.{Observation, ReadBytes, ReadValues, ReadWords, Replies, Reply, observed, readBytes}
+use Rattle.rules.specs.Observation.{readDescriptors, readPage, readValues, readWords, timesListed}
 use Rattle.rules.proofs.Kept.Views.{Alike}
 
 -- Two lists of questions with the same first no.
@@ -27,118 +25,117 @@ ask-same n b c qs rs same rest =
     (λ e. rw (e, sym same ∙ e) (rest e))
     (λ e. rw (e, sym same ∙ e))
 
--- What a reply to an accepted command reads as.
-abbrev pub told : Drive → Command → List ℕ → Observation
-told v c bytes =
-    let reading = readingOf c in
-    let u = readIn reading v (effect c v .drive) in
+-- What a reply to an accepted call reads as.
+abbrev pub told : ℕ → Drive → Call → List ℕ → Observation
+told a v k bytes =
+    let p = profile (k .command) in
+    let x = effect v k in
     record {
       number = 0;
-      serials = map (serialAt u) (effect c v .values);
-      words = readWords reading u (effect c v .words);
-      bytes = readBytes reading u bytes;
+      values = readValues (p .values) a v (x .drive) (x .values);
+      words = readWords (p .words) a (x .drive) (x .words);
+      bytes = readBytes (p .bytes) a (x .drive) bytes;
     }
-
--- The same request in two drives: the same verdict, and if it is yes the same is told and left.
-pub record Twin (a : ℕ) (v w : Drive) (lent : Lengths) (c d : Command) : Type 0 where
-  pub reading : readingOf c ≡ readingOf d
-  pub verdicts : verdict v lent c ≡ verdict w lent d
-  pub after : verdict v lent c ≡ 0 → verdict w lent d ≡ 0 → Alike a (effect c v .drive) (effect d w .drive)
-  pub telling : verdict v lent c ≡ 0 → verdict w lent d ≡ 0
-      → (bytes other : List ℕ) → Fills c (v .table) bytes → Fills d (w .table) other → told v c bytes ≡ told w d other
 
 -- ---- A refusal reads as its number alone.
 
-refusedBytes : Reading → Bytes
-refusedBytes seen.plainly = Bytes.plain []
-refusedBytes seen.freed = Bytes.plain []
-refusedBytes seen.addresses = Bytes.plain []
-refusedBytes seen.information = Bytes.page []
-refusedBytes seen.descriptors = Bytes.set (λ x. 0)
+abbrev pub refusedValues : Values → ReadValues
+refusedValues counts = ReadValues.numbers []
+refusedValues blocksAfter = ReadValues.blocks []
+refusedValues blocksBefore = ReadValues.blocks []
 
-refusedWords : Reading → Words
-refusedWords seen.plainly = Words.plain []
-refusedWords seen.freed = Words.plain []
-refusedWords seen.addresses = Words.flash []
-refusedWords seen.information = Words.plain []
-refusedWords seen.descriptors = Words.plain []
+abbrev pub refusedWords : WordsDue → ReadWords
+refusedWords noWords = ReadWords.plain []
+refusedWords (userWords count) = ReadWords.plain []
+refusedWords (addressWords count) = ReadWords.addresses []
 
-no-words : (r : Reading) (u : Drive) → readWords r u [] ≡ refusedWords r
-unfolding refusedWords
-no-words seen.plainly u = refl
-no-words seen.freed u = refl
-no-words seen.addresses u = refl
-no-words seen.information u = refl
-no-words seen.descriptors u = refl
+abbrev pub refusedBytes : BytesDue → ReadBytes
+refusedBytes noBytes = ReadBytes.plain []
+refusedBytes (pageBytes n) = ReadBytes.plain []
+refusedBytes (listBytes d which) = ReadBytes.list (λ x. 0)
 
-no-bytes : (r : Reading) (u : Drive) → readBytes r u [] ≡ refusedBytes r
-unfolding refusedBytes readPage readDescriptors timesListed
-no-bytes seen.plainly u = refl
-no-bytes seen.freed u = refl
-no-bytes seen.addresses u = refl
-no-bytes seen.information u = refl
-no-bytes seen.descriptors u = refl
+abbrev pub refusedAs : Profile → ℕ → Observation
+refusedAs p n = record {
+  number = n;
+  values = refusedValues (p .values);
+  words = refusedWords (p .words);
+  bytes = refusedBytes (p .bytes);
+}
 
--- What the rules reply to a refused and to an accepted command.
-module _ (v : Drive) (k : Call) (r : Reply) (replies : Replies v k r) where
-  abbrev c : Command
-  c = k .command
+no-values : (due : Values) (a : ℕ) (v u : Drive) → readValues due a v u [] ≡ refusedValues due
+no-values counts a v u = refl
+no-values blocksAfter a v u = refl
+no-values blocksBefore a v u = refl
 
-  abbrev asked : ℕ
-  asked = verdict v (k .lent) c
+no-words : (due : WordsDue) (a : ℕ) (u : Drive) → readWords due a u [] ≡ refusedWords due
+no-words noWords a u = refl
+no-words (userWords count) a u = refl
+no-words (addressWords count) a u = refl
 
-  refused-read : accepted v (k .lent) c ≡ false
-      → observed v k r
-      ≡ record { number = asked; serials = []; words = refusedWords (readingOf c); bytes = refusedBytes (readingOf c) }
+no-bytes : (due : BytesDue) (a : ℕ) (u : Drive) → readBytes due a u [] ≡ refusedBytes due
+unfolding readPage readDescriptors timesListed
+no-bytes noBytes a u = refl
+no-bytes (pageBytes n) a u = refl
+no-bytes (listBytes d which) a u = refl
+
+-- The same request in two drives: the same verdict, a refusal reads the same, and if it is accepted the same is told and left.
+pub record Twin (a : ℕ) (v w : Drive) (k l : Call) : Type 0 where
+  pub reading : refusedAs (profile (k .command)) ≡ refusedAs (profile (l .command))
+  pub verdicts : verdict v k ≡ verdict w l
+  pub after : verdict v k ≡ 0 → verdict w l ≡ 0 → Alike a (effect v k .drive) (effect w l .drive)
+  pub telling : verdict v k ≡ 0 → verdict w l ≡ 0
+      → (bytes other : List ℕ) → Fills (profile (k .command) .bytes) (v .table) bytes → Fills (profile (l .command) .bytes) (w .table) other
+      → told a v k bytes ≡ told a w l other
+
+-- What the rules reply to a refused and to an accepted call.
+module _ (a : ℕ) (v : Drive) (k : Call) (r : Reply) (replies : Replies v k r) where
+  abbrev p : Profile
+  p = profile (k .command)
+
+  refused-read : accepted v k ≡ false → observed a v k r ≡ refusedAs p (verdict v k)
   unfolding observed wordsFilled answered
   refused-read e =
-      let u = readIn (readingOf c) v (step k v) in
-      let answer : r .answer ≡ refusal asked = replies .answers ∙ (rw e) in
+      let u = step k v in
+      let answer : r .answer ≡ refusal (verdict v k) = replies .answers ∙ (rw e) in
       let words : r .words ≡ [] = replies .fills-words ∙ (rw e) in
-      let bytes : r .bytes ≡ [] = subst (λ (b : Bool). FillsIf b c (v .table) (r .bytes)) e (replies .fills-bytes) in
-      rw (answer, words, bytes, no-words (readingOf c) u, no-bytes (readingOf c) u)
+      let bytes : r .bytes ≡ [] = subst (λ (b : Bool). FillsIf b (p .bytes) (v .table) (r .bytes)) e (replies .fills-bytes) in
+      rw (answer, words, bytes, no-values (p .values) a v u, no-words (p .words) a u, no-bytes (p .bytes) a u)
 
-  accepted-read : accepted v (k .lent) c ≡ true → observed v k r ≡ told v c (r .bytes)
-  unfolding observed wordsFilled answered driveAfter
+  accepted-read : accepted v k ≡ true → observed a v k r ≡ told a v k (r .bytes)
+  unfolding observed wordsFilled answered step
   accepted-read e =
-      let answer : r .answer ≡ success (effect c v .values) = replies .answers ∙ (rw e) in
-      let words : r .words ≡ effect c v .words = replies .fills-words ∙ (rw e) in
+      let answer : r .answer ≡ success (effect v k .values) = replies .answers ∙ (rw e) in
+      let words : r .words ≡ effect v k .words = replies .fills-words ∙ (rw e) in
       rw (answer, words, e)
 
-  accepted-fills : accepted v (k .lent) c ≡ true → Fills c (v .table) (r .bytes)
-  accepted-fills e = subst (λ (b : Bool). FillsIf b c (v .table) (r .bytes)) e (replies .fills-bytes)
+  accepted-fills : accepted v k ≡ true → Fills (p .bytes) (v .table) (r .bytes)
+  accepted-fills e = subst (λ (b : Bool). FillsIf b (p .bytes) (v .table) (r .bytes)) e (replies .fills-bytes)
 
 -- ---- What follows for two calls
 
-module _ {a : ℕ} {v w : Drive} (lent : Lengths) (c d : Command) (alike : Alike a v w) (twin : Twin a v w lent c d) where
-  abbrev one : Call
-  one = record { command = c; lent = lent }
-
-  abbrev other : Call
-  other = record { command = d; lent = lent }
-
-  both-accepted : accepted v lent c ≡ accepted w lent d
+module _ {a : ℕ} {v w : Drive} (k l : Call) (alike : Alike a v w) (twin : Twin a v w k l) where
+  both-accepted : accepted v k ≡ accepted w l
   both-accepted = ap (λ (n : ℕ). eqb n 0) (twin .verdicts)
 
-  pub twin-alike : Alike a (step one v) (step other w)
-  unfolding driveAfter
+  pub twin-alike : Alike a (step k v) (step l w)
+  unfolding step
   twin-alike =
-      by-test (accepted v lent c)
+      by-test (accepted v k)
       (λ e.
       let f = sym both-accepted ∙ e in
-      rw (e, f) (twin .after (eqb-true (verdict v lent c) 0 e) (eqb-true (verdict w lent d) 0 f)))
+      rw (e, f) (twin .after (eqb-true (verdict v k) 0 e) (eqb-true (verdict w l) 0 f)))
       (λ e. rw (e, sym both-accepted ∙ e) alike)
 
-  pub twin-observed : (r s : Reply) → Replies v one r → Replies w other s → observed v one r ≡ observed w other s
-  twin-observed r s p q =
-      by-test (accepted v lent c)
+  pub twin-observed : (r s : Reply) → Replies v k r → Replies w l s → observed a v k r ≡ observed a w l s
+  twin-observed r s x y =
+      by-test (accepted v k)
       (λ e.
       let f = sym both-accepted ∙ e in
-      accepted-read v one r p e
-      ∙ twin .telling (eqb-true (verdict v lent c) 0 e) (eqb-true (verdict w lent d) 0 f) (r .bytes) (s .bytes)
-      (accepted-fills v one r p e) (accepted-fills w other s q f)
-      ∙ sym (accepted-read w other s q f))
+      accepted-read a v k r x e
+      ∙ twin .telling (eqb-true (verdict v k) 0 e) (eqb-true (verdict w l) 0 f) (r .bytes) (s .bytes)
+      (accepted-fills a v k r x e) (accepted-fills a w l s y f)
+      ∙ sym (accepted-read a w l s y f))
       (λ e.
-      refused-read v one r p e
-      ∙ (rw (twin .verdicts, twin .reading))
-      ∙ sym (refused-read w other s q (sym both-accepted ∙ e)))
+      refused-read a v k r x e
+      ∙ ap₂ (λ (f : ℕ → Observation) (n : ℕ). f n) (twin .reading) (twin .verdicts)
+      ∙ sym (refused-read a w l s y (sym both-accepted ∙ e)))

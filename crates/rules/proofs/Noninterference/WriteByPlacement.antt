@@ -10,7 +10,6 @@ use lib.ListN.{drop, length, take}
 use borrow.Author.Tests.{eqb-true}
 use Rattle.geometry.proofs.Laws.Shape.{limits}
 use Rattle.geometry.specs.Shape.{adusPerBlock, withinLimits}
-use Rattle.geometry.specs.declared.address.FlashAddress.{FlashAddress}
 use Rattle.geometry.specs.declared.shape.Adus.{Adus}
 use Rattle.geometry.specs.declared.shape.Config.{Config}
 use Rattle.model.specs.declared.block.Block.{Block}
@@ -18,23 +17,24 @@ use Rattle.model.specs.declared.block.Way.the-variants.{Placement}
 use Rattle.model.specs.declared.command.Command.the-variants.{WriteByPlacement}
 use Rattle.model.specs.declared.table.Domain.{Domain}
 use Rattle.rules.specs.Blocks.{Written, chosenBlock, newBlocks, openedFor, roomIn, userAddresses, writtenByPlacement, writtenInto, writtenOnwards}
+use Rattle.rules.specs.Calls.{Call, _asking_}
 use Rattle.rules.specs.Drive.{Drive, blockAt, heldBy, isPlacedState, openBlock, size}
 use Rattle.rules.specs.Effects.{effect, verdict}
-use Rattle.rules.specs.Observation.{Holding, Holds, holdingAt, readAddress, serialAt}
-use Rattle.rules.specs.Questions.{Lengths, coveredAfter, isCount, mayOpenFor, questions, serialsLeft, withinQuota}
+use Rattle.rules.specs.Observation.{Address, Holding, Holds, addressOf, holdingAt, nameOf}
+use Rattle.rules.specs.Questions.{coveredAfter, isCount, mayOpenFor, serialsLeft, withinQuota}
 use Rattle.rules.proofs.Kept.Asked.{placement-asked}
 use Rattle.rules.proofs.Kept.Calls.{course-fit}
-use Rattle.rules.proofs.Kept.Changes.{Writable, opened-changed, written-changed, written-held}
+use Rattle.rules.proofs.Kept.Changes.{Writable, opened-changed, written-changed}
 use Rattle.rules.proofs.Kept.Facts.{Facts}
 use Rattle.rules.proofs.Kept.Onwards.{Onward, OpenTo, fill-config, next-block, next-onward, next-openable, next-writable, onward-sequel, open-to}
 use Rattle.rules.proofs.Kept.Placement.{Asked, first-writable, firstOf, newFor, none-onward, placement-is, restOf, some-onward}
 use Rattle.rules.proofs.Kept.Views.{Alike, alike-back}
 use Rattle.rules.proofs.Noninterference.Addresses.{map-append}
 use Rattle.rules.proofs.Noninterference.Blocks.{opened-alike, opened-same, written-alike, written-same}
-use Rattle.rules.proofs.Noninterference.Common.{Pair, covered-same, exists-same, fits-same, may-open-same, quota-same, serials-same, sound-same}
+use Rattle.rules.proofs.Noninterference.Common.{Pair, covered-same, first-same, may-open-same, name-kept, quota-same, same-name, serials-same}
 use Rattle.rules.proofs.Noninterference.Pairing.{one-block, partner}
 use Rattle.rules.proofs.Noninterference.Twins.{Twin, ask-same, told}
-use Rattle.rules.proofs.Noninterference.WriteByBlock.{addressesTold, written-read}
+use Rattle.rules.proofs.Noninterference.WriteByBlock.{addressesTold, into-config, into-holds, written-read}
 use Rattle.rules.proofs.Writes.{Ready, onwards-some, onwards-zero}
 
 -- ---- The next block in both
@@ -87,31 +87,32 @@ module _ {a p k : ℕ} {users : List ℕ} {v w : Drive} (s : Alike a v w) (x : O
       (sym (s .config)) (next-onward y m chosen')
 
   filled-read : (u z : Drive) → u .table .config ≡ opening .table .config → z .table .config ≡ opening' .table .config
-      → serialAt u n ≡ serialAt z m
-      → map (readAddress u) (writtenInto a n these opening .addresses) ≡ map (readAddress z) (writtenInto a m these opening' .addresses)
+      → nameOf a u n ≡ nameOf a z m
+      → map (addressOf a u) (writtenInto a n these opening .addresses) ≡ map (addressOf a z) (writtenInto a m these opening' .addresses)
   filled-read u z =
       written-read alike-opened next-left next-right same-opened u z
       (subst (λ (e : Config). withinLimits e ≡ true) (sym (opened-changed (next-openable x n chosen) (Placement p) .config)) (x .facts .limits))
 
 -- ---- Onwards in both
 
--- A block that the domain holds keeps its serial while others are opened.
-onward-serial : (a p k : ℕ) (users : List ℕ) (v : Drive) → Onward a p k users v → (n : ℕ) → Holds a v n
-    → serialAt (writtenOnwards a p k users v .drive) n ≡ serialAt v n
-onward-serial a p zero users v o n h =
-    ap (λ (x : Written). serialAt (x .drive) n) (onwards-zero (v .table .config) a p users v)
-onward-serial a p (suc k) users v o n h =
+-- A block that the domain holds keeps its name while others are opened.
+onward-name : (a p k : ℕ) (users : List ℕ) (v : Drive) → Onward a p k users v → (n : ℕ) → Holds a v n
+    → nameOf a (writtenOnwards a p k users v .drive) n ≡ nameOf a v n
+onward-name a p zero users v o n h =
+    ap (λ (x : Written). nameOf a (x .drive) n) (onwards-zero (v .table .config) a p users v)
+onward-name a p (suc k) users v o n h =
     let m = next-block o .0 in
     let chosen = next-block o .1 in
+    let next = writtenInto a m (take (adusPerBlock (v .table .config) .0) users) (openedFor a (Placement p) m v) .drive in
     let apart : ¬ (n ≡ m) = λ same. held-nobody same (next-openable o m chosen .nobody) in
     let opened-block = opened-changed (next-openable o m chosen) (Placement p) .blocks n apart in
     let filled-block = written-changed (next-writable o m chosen) .blocks n apart in
-    ap (λ (x : Written). serialAt (x .drive) n) (onwards-some (v .table .config) a p k m users v (o .ready) chosen)
-    ∙ onward-serial a p k _ _ (next-onward o m chosen) n (
+    ap (λ (x : Written). nameOf a (x .drive) n) (onwards-some (v .table .config) a p k m users v (o .ready) chosen)
+    ∙ onward-name a p k _ _ (next-onward o m chosen) n (
       subst (λ (e : Config). n < e .blocks) (sym (fill-config o m chosen)) (h .0),
       subst (λ (b : Block). heldBy a b ≡ true) (sym (filled-block ∙ opened-block)) (h .1),
     )
-    ∙ ap (λ (b : Block). b .serial) (filled-block ∙ opened-block)
+    ∙ name-kept a v next n (fill-config o m chosen) (filled-block ∙ opened-block)
   where
     held-nobody : {m : ℕ} → n ≡ m → blockAt (v .table) m .holder ≡ 0 → ⊥
     held-nobody {m} same none-holds =
@@ -120,28 +121,21 @@ onward-serial a p (suc k) users v o n h =
 -- What two writes leave and hand back: drives that the domain cannot tell apart, and addresses that read the same.
 record Same (a : ℕ) (x y : Written) : Type 0 where
   alike : Alike a (x .drive) (y .drive)
-  read : map (readAddress (x .drive)) (x .addresses) ≡ map (readAddress (y .drive)) (y .addresses)
-
--- The drive after a write into a block: of the same shape, and the block is still held.
-into-config : {a n : ℕ} {users : List ℕ} {v : Drive} → Writable a n users v → writtenInto a n users v .drive .table .config ≡ v .table .config
-into-config x = written-changed x .config
-
-into-holds : {a n : ℕ} {users : List ℕ} {v : Drive} → Writable a n users v → Holds a (writtenInto a n users v .drive) n
-into-holds {a} {n} {users} {v} x = (subst (λ (e : Config). n < e .blocks) (sym (into-config x)) (x .inside), written-held x)
+  read : map (addressOf a (x .drive)) (x .addresses) ≡ map (addressOf a (y .drive)) (y .addresses)
 
 abbrev join : Written → Written → Written
 join first rest = record { drive = rest .drive; addresses = first .addresses ++ rest .addresses }
 
 -- A write into one block each, and then the same onwards.
-joined : {a : ℕ} (first first' rest rest' : Written) → Same a rest rest'
-    → map (readAddress (rest .drive)) (first .addresses) ≡ map (readAddress (rest' .drive)) (first' .addresses)
+joined : (a : ℕ) (first first' rest rest' : Written) → Same a rest rest'
+    → map (addressOf a (rest .drive)) (first .addresses) ≡ map (addressOf a (rest' .drive)) (first' .addresses)
     → Same a (join first rest) (join first' rest')
-joined first first' rest rest' same here = record {
+joined a first first' rest rest' same here = record {
   alike = same .alike;
   read =
-      map-append (readAddress (rest .drive)) (first .addresses) (rest .addresses)
-      ∙ ap₂ (λ (l r : List FlashAddress). l ++ r) here (same .read)
-      ∙ sym (map-append (readAddress (rest' .drive)) (first' .addresses) (rest' .addresses));
+      map-append (addressOf a (rest .drive)) (first .addresses) (rest .addresses)
+      ∙ ap₂ (λ (l r : List Address). l ++ r) here (same .read)
+      ∙ sym (map-append (addressOf a (rest' .drive)) (first' .addresses) (rest' .addresses));
 }
 
 onward-twin : (a p k : ℕ) (users : List ℕ) (v w : Drive) → Alike a v w → Onward a p k users v → Onward a p k users w
@@ -166,19 +160,20 @@ onward-twin a p (suc k) users v w s x y =
     let o = onward-left s x y n m chosen chosen' in
     let o' = onward-right s x y n m chosen chosen' in
     let same = onward-twin a p k others (first .drive) (first' .drive) (filled-alike s x y n m chosen chosen') o o' in
-    let serials =
-    onward-serial a p k others (first .drive) o n (into-holds left)
-    ∙ ap (λ (h : Holding). h .serial) (filled-same s x y n m chosen chosen')
-    ∙ sym (onward-serial a p k others (first' .drive) o' m (into-holds right)) in
+    let names =
+    onward-name a p k others (first .drive) o n (into-holds left)
+    ∙ same-name a (first .drive) (first' .drive) n m (into-holds left) (into-holds right)
+    (ap (λ (h : Holding). h .serial) (filled-same s x y n m chosen chosen'))
+    ∙ sym (onward-name a p k others (first' .drive) o' m (into-holds right)) in
     let here =
     filled-read s x y n m chosen chosen' (rest .drive) (rest' .drive)
     (onward-sequel a p k others (first .drive) o .sequel .config ∙ into-config left)
     (onward-sequel a p k others (first' .drive) o' .sequel .config ∙ into-config right)
-    serials in
+    names in
     subst (λ (z : Written). Same a z (writtenOnwards a p (suc k) users w)) (sym (onwards-some c a p k n users v (x .ready) chosen))
     (subst (Same a (join first rest))
     (sym (onwards-some c a p k m users w (subst (λ (e : Config). Ready e w) (sym (s .config)) (y .ready)) chosen'))
-    (joined first first' rest rest' same here))
+    (joined a first first' rest rest' same here))
 
 -- The same onwards, by as many blocks and behind as many user addresses.
 onward-same : (a p : ℕ) (users : List ℕ) {k k' r r' : ℕ} {v w : Drive} → k ≡ k' → r ≡ r' → Alike a v w
@@ -249,17 +244,13 @@ module _ {a : ℕ} {v w : Drive} (p : Pair a v w) (k : ℕ) where
       ap₂ (λ (c : Config) (r : ℕ). (count - r + (adusPerBlock c .0 - 1)) / adusPerBlock c .0)
       (p .alike .config) (room-from found found' open-same)
 
-  module _ (lent : Lengths) (start : ℕ) (count : Adus) where
-    placement-verdicts : verdict v lent (WriteByPlacement a k start count) ≡ verdict w lent (WriteByPlacement a k start count)
-    unfolding questions
+  module _ (call : Call) (start : ℕ) (count : Adus) where
+    placement-verdicts : verdict v (call asking WriteByPlacement a k start count) ≡ verdict w (call asking WriteByPlacement a k start count)
     placement-verdicts =
         let new = newBlocks (v .table) a k (count .0) in
         let new' = newBlocks (w .table) a k (count .0) in
         let news = new-same (count .0) in
-        ask-same _ _ _ _ _ (sound-same p) (λ e2.
-        ask-same _ _ _ _ _ (fits-same p lent) (λ e3.
-        ask-same _ _ _ _ _ refl (λ e4.
-        ask-same _ _ _ _ _ (exists-same p) (λ e5.
+        first-same p call (WriteByPlacement a k start count) (WriteByPlacement a k start count) refl refl refl (λ e5.
         ask-same _ _ _ _ _ (ap (λ (r : Domain). ltb k (r .placements) && isCount count) (p .alike .domain)) (λ e6.
         ask-same _ _ _ _ _ refl (λ e7.
         ask-same _ _ _ _ _ refl (λ e8.
@@ -267,7 +258,7 @@ module _ {a : ℕ} {v w : Drive} (p : Pair a v w) (k : ℕ) where
         ask-same _ _ _ _ _ (serials-same p new ∙ ap (λ (x : ℕ). serialsLeft (w .table) a x) news) (λ e12.
         ask-same _ _ _ _ _ (quota-same p new ∙ ap (λ (x : ℕ). withinQuota (w .table) a x) news) (λ e13.
         ask-same _ _ _ _ _ (covered-same p new e5 e13 ∙ ap (λ (x : ℕ). coveredAfter (w .table) a x) news) (λ e14.
-        refl)))))))))))
+        refl))))))))
 
     abbrev users : List ℕ
     users = userAddresses start (count .0)
@@ -277,17 +268,17 @@ module _ {a : ℕ} {v w : Drive} (p : Pair a v w) (k : ℕ) where
         ap₂ (λ (c : Config) (r : ℕ). (length users - r + (adusPerBlock c .0 - 1)) / adusPerBlock c .0)
         (p .alike .config) (room-from x y same)
 
-    module _ (e : verdict v lent (WriteByPlacement a k start count) ≡ 0) (f : verdict w lent (WriteByPlacement a k start count) ≡ 0) where
+    module _ (e : verdict v (call asking WriteByPlacement a k start count) ≡ 0) (f : verdict w (call asking WriteByPlacement a k start count) ≡ 0) where
       asked : Asked a k users v
-      asked = placement-asked v lent (course-fit (p .left) lent) a k start count e
+      asked = placement-asked v call (course-fit (p .left) call) a k start count e
 
       asked' : Asked a k users w
-      asked' = placement-asked w lent (course-fit (p .right) lent) a k start count f
+      asked' = placement-asked w call (course-fit (p .right) call) a k start count f
 
       whole-none : found ≡ none → found' ≡ none
           → Same a (join (firstOf a none users v) (restOf a k none users v)) (join (firstOf a none users w) (restOf a k none users w))
       whole-none at at' =
-          joined (firstOf a none users v) (firstOf a none users w) (restOf a k none users v) (restOf a k none users w)
+          joined a (firstOf a none users v) (firstOf a none users w) (restOf a k none users v) (restOf a k none users w)
           (onward-same a k users {r = 0} {r' = 0} (news none none tt) refl (p .alike) (none-onward asked at) (none-onward asked' at'))
           refl
 
@@ -323,25 +314,26 @@ module _ {a : ℕ} {v w : Drive} (p : Pair a v w) (k : ℕ) where
             (subst (λ (z : Written). Alike a (first .drive) (z .drive)) second-is (written-alike (p .alike) left right same))
             (some-onward asked n at) (some-onward asked' m at')
 
-        serials : serialAt (restOf a k (some n) users v .drive) n ≡ serialAt (restOf a k (some m) users w .drive) m
-        serials =
-            onward-serial a k _ _ (first .drive) (some-onward asked n at) n (into-holds left)
-            ∙ ap (λ (h : Holding). h .serial) (written-same (p .alike) left right same)
-            ∙ ap (λ (z : Written). serialAt (z .drive) m) second-is
-            ∙ sym (onward-serial a k _ _ (first' .drive) (some-onward asked' m at') m (into-holds right'))
+        names : nameOf a (restOf a k (some n) users v .drive) n ≡ nameOf a (restOf a k (some m) users w .drive) m
+        names =
+            onward-name a k _ _ (first .drive) (some-onward asked n at) n (into-holds left)
+            ∙ same-name a (first .drive) (second .drive) n m (into-holds left) (into-holds right)
+            (ap (λ (h : Holding). h .serial) (written-same (p .alike) left right same))
+            ∙ ap (λ (z : Written). nameOf a (z .drive) m) second-is
+            ∙ sym (onward-name a k _ _ (first' .drive) (some-onward asked' m at') m (into-holds right'))
 
-        first-read : map (readAddress (restOf a k (some n) users v .drive)) (first .addresses)
-            ≡ map (readAddress (restOf a k (some m) users w .drive)) (first' .addresses)
+        first-read : map (addressOf a (restOf a k (some n) users v .drive)) (first .addresses)
+            ≡ map (addressOf a (restOf a k (some m) users w .drive)) (first' .addresses)
         first-read =
             written-read (p .alike) left right same (restOf a k (some n) users v .drive) (restOf a k (some m) users w .drive)
             (p .left .facts .limits)
             (onward-sequel a k _ _ (first .drive) (some-onward asked n at) .sequel .config ∙ into-config left)
             (onward-sequel a k _ _ (first' .drive) (some-onward asked' m at') .sequel .config ∙ into-config right')
-            serials
-            ∙ ap (λ (z : Written). map (readAddress (restOf a k (some m) users w .drive)) (z .addresses)) second-is
+            names
+            ∙ ap (λ (z : Written). map (addressOf a (restOf a k (some m) users w .drive)) (z .addresses)) second-is
 
         whole-some : Same a (join first (restOf a k (some n) users v)) (join first' (restOf a k (some m) users w))
-        whole-some = joined first first' (restOf a k (some n) users v) (restOf a k (some m) users w) rest-same first-read
+        whole-some = joined a first first' (restOf a k (some n) users v) (restOf a k (some m) users w) rest-same first-read
 
       by-found : (x y : Option ℕ) → found ≡ x → found' ≡ y → SameOpen a v w x y
           → Same a (join (firstOf a x users v) (restOf a k x users v)) (join (firstOf a y users w) (restOf a k y users w))
@@ -356,16 +348,16 @@ module _ {a : ℕ} {v w : Drive} (p : Pair a v w) (k : ℕ) where
           (subst (Same a (join (firstOf a found users v) (restOf a k found users v))) (sym (placement-is a k users w found' refl))
           (by-found found found' refl refl open-same))
 
-      placement-alike : Alike a (effect (WriteByPlacement a k start count) v .drive) (effect (WriteByPlacement a k start count) w .drive)
+      placement-alike : Alike a (effect v (call asking WriteByPlacement a k start count) .drive) (effect w (call asking WriteByPlacement a k start count) .drive)
       unfolding effect
       placement-alike = placement-same .alike
 
       placement-told : (bytes other : List ℕ) → bytes ≡ [] → other ≡ []
-          → told v (WriteByPlacement a k start count) bytes ≡ told w (WriteByPlacement a k start count) other
+          → told a v (call asking WriteByPlacement a k start count) bytes ≡ told a w (call asking WriteByPlacement a k start count) other
       unfolding effect
-      placement-told bytes other b o = rw (b, o) (ap (λ (l : List FlashAddress). addressesTold l) (placement-same .read))
+      placement-told bytes other b o = rw (b, o) (ap (λ (l : List Address). addressesTold l) (placement-same .read))
 
-    pub write-placement-twin : Twin a v w lent (WriteByPlacement a k start count) (WriteByPlacement a k start count)
+    pub write-placement-twin : Twin a v w (call asking WriteByPlacement a k start count) (call asking WriteByPlacement a k start count)
     write-placement-twin = record {
       reading = refl;
       verdicts = placement-verdicts;

@@ -12,6 +12,9 @@ Inv-loop text config₀ at₀ config at = at ≤ length text + 1
 abbrev μ-loop : tie.MeasureT-loop
 μ-loop text config₀ at₀ config at = length text - at
 
+no-config-requires : tie.Need-no-config-requires Inv-loop μ-loop
+no-config-requires c κs = search needs
+
 loop-holds : tie.Need-loop-holds Inv-loop μ-loop
 loop-holds c = omega arith
 
@@ -48,6 +51,7 @@ lines-spec =
     (tie.spec
     Inv-loop
     μ-loop
+    no-config-requires
     loop-holds
     line-end-requires
     sub-step

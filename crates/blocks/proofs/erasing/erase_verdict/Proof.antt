@@ -4,7 +4,7 @@ use borrow.Author.Needs.{needs}
 use Rattle.blocks.specs.Erasing.{eraseArguments, eraseState}
 use Rattle.geometry.proofs.Laws.Questions.{positive, then-asked, then-not}
 use Rattle.model.specs.Answers.{numberOf}
-use Rattle.rules.proofs.Questions.{yes-at}
+use Rattle.rules.proofs.Questions.{yes-in}
 use Rattle.survey.proofs.Seeing.{limits-seen}
 use Rattle.tables.proofs.Refusals.{refusal-positive}
 use Rattle.tables.specs.Verdicts.{verdictNumber}
@@ -23,7 +23,7 @@ enum-told c = search needs
 erase-state-requires : tie.Need-erase-state-requires
 unfolding positive eraseArguments
 erase-state-requires c κs = let z = c .before .before .before in let a = z .args in
-    (z .pre, yes-at 1 (eraseArguments (a .sight) (a .entries) (a .domain) (a .block)) refl (sym (c .before .before .erase-arguments .ensures) ∙ ap verdictNumber (c .enum-told .given .1)))
+    (z .pre, yes-in 4 (eraseArguments (a .sight) (a .entries) (a .domain) (a .block)) refl (sym (c .before .before .erase-arguments .ensures) ∙ ap verdictNumber (c .enum-told .given .1)))
 
 returns : tie.Need-returns
 returns c = let a = c .before .before .before .before .args in let reason = c .before .reason .given .0 .0 in λ t s.

@@ -7,8 +7,9 @@ use Rattle.domains.specs.Reserving.{changeArguments}
 use Rattle.geometry.specs.Questions.{firstNo}
 use Rattle.geometry.specs.Shape.{withinLimits}
 use Rattle.model.specs.declared.command.Command.the-variants.{ChangeCapacity}
+use Rattle.rules.specs.Calls.{calling}
 use Rattle.rules.specs.Domains.{changedDomain}
-use Rattle.rules.specs.Effects.{effect, lengthsOf}
+use Rattle.rules.specs.Effects.{effect}
 use Rattle.rules.specs.Questions.{questions}
 use Rattle.survey.proofs.Outcomes.{later-outcome, unsound-outcome}
 use Rattle.survey.proofs.Seeing.{held-seen, limits-seen}
@@ -60,12 +61,11 @@ reserved-requires c κs = let z = c .before .before .before .before .before .bef
 returns-2 : tie.Need-returns-2
 returns-2 c = let z = c .before .before .before .before .before .before .before .args in λ t store words bytes s.
     let v = drive t store in
-    let lent = lengthsOf v words bytes in
     let command = ChangeCapacity (z .domain) (z .guarantee) (z .quota) in
     let reason = c .before .before .reason .given .0 .0 in
     later-outcome t (z .domain) (z .sight) command (c .refusal2 .result) reason store words bytes s (not-false _ (c .before .before .before .before .before .if1 .left))
-    (first-part v lent command 3 reason
-    (sym (ap verdictNumber (c .before .before .reason .given .1)) ∙ c .before .before .before .before .change-arguments .ensures ∙ change-asked t (z .domain) (z .sight) (z .guarantee) (z .quota) store lent s))
+    (first-part v (calling command store words bytes) 14 reason
+    (sym (ap verdictNumber (c .before .before .reason .given .1)) ∙ c .before .before .before .before .change-arguments .ensures ∙ change-asked t (z .domain) (z .sight) (z .guarantee) (z .quota) store (calling command store words bytes) s))
     (c .refusal2 .ensures)
 
 returns-3 : tie.Need-returns-3
@@ -73,11 +73,12 @@ unfolding questions effect
 returns-3 c = let z = c .before .before .before .before .before .before .before .args in λ t store words bytes s.
     let v = drive t store in
     let e = not-false _ (c .before .before .before .before .before .if1 .left) in
+    let command = ChangeCapacity (z .domain) (z .guarantee) (z .quota) in
     let told = passed (c .before .before) in
     let id = change-id (z .sight) (z .domain) (z .guarantee) (z .quota) told in
     rw (c .reserved .ensures t s, c .before .changed-domain .ensures, changed-seen t (z .domain) (z .sight) (z .guarantee) (z .quota) s e id)
-    (reserving-outcome t (z .domain) (z .sight) (ChangeCapacity (z .domain) (z .guarantee) (z .quota)) (changedDomain t (z .domain) (z .guarantee) (z .quota)) store words bytes s e id
-    (sym (change-asked t (z .domain) (z .sight) (z .guarantee) (z .quota) store (lengthsOf v words bytes) s) ∙ told) refl refl refl)
+    (reserving-outcome t (z .domain) (z .sight) command (changedDomain t (z .domain) (z .guarantee) (z .quota)) store words bytes s e id
+    (sym (change-asked t (z .domain) (z .sight) (z .guarantee) (z .quota) store (calling command store words bytes) s) ∙ told) refl refl refl)
 
 pub change-capacity-spec : {M : Type 1} → statement M
 change-capacity-spec =

@@ -7,8 +7,9 @@ use Rattle.domains.specs.Reserving.{createArguments}
 use Rattle.geometry.specs.Questions.{firstNo}
 use Rattle.geometry.specs.Shape.{withinLimits}
 use Rattle.model.specs.declared.command.Command.the-variants.{Create}
+use Rattle.rules.specs.Calls.{calling}
 use Rattle.rules.specs.Domains.{createdDomain}
-use Rattle.rules.specs.Effects.{effect, lengthsOf}
+use Rattle.rules.specs.Effects.{effect}
 use Rattle.rules.specs.Questions.{questions}
 use Rattle.survey.proofs.Outcomes.{later-outcome, unsound-outcome}
 use Rattle.survey.proofs.Seeing.{limits-seen}
@@ -59,24 +60,24 @@ reserved-requires c κs = let z = c .before .before .before .before .before .bef
 returns-2 : tie.Need-returns-2
 returns-2 c = let z = c .before .before .before .before .before .before .before .args in λ t store words bytes s.
     let v = drive t store in
-    let lent = lengthsOf v words bytes in
     let command = Create (z .domain) (z .guarantee) (z .quota) (z .placements) (z .limit) in
     let reason = c .before .before .reason .given .0 .0 in
     later-outcome t (z .domain) (z .sight) command (c .refusal2 .result) reason store words bytes s (not-false _ (c .before .before .before .before .before .if1 .left))
-    (first-part v lent command 3 reason
-    (sym (ap verdictNumber (c .before .before .reason .given .1)) ∙ c .before .before .before .before .create-arguments .ensures ∙ create-asked t (z .domain) (z .sight) (z .guarantee) (z .quota) (z .placements) (z .limit) store lent s))
+    (first-part v (calling command store words bytes) 14 reason
+    (sym (ap verdictNumber (c .before .before .reason .given .1)) ∙ c .before .before .before .before .create-arguments .ensures ∙ create-asked t (z .domain) (z .sight) (z .guarantee) (z .quota) (z .placements) (z .limit) store (calling command store words bytes) s))
     (c .refusal2 .ensures)
 
 returns-3 : tie.Need-returns-3
 unfolding questions effect
 returns-3 c = let z = c .before .before .before .before .before .before .before .before .args in λ t store words bytes s.
     let v = drive t store in
+    let command = Create (z .domain) (z .guarantee) (z .quota) (z .placements) (z .limit) in
     let told = passed (c .before .before .before) in
     rw (c .reserved .ensures t s, c .before .created-domain .ensures, s .same-config)
-    (reserving-outcome t (z .domain) (z .sight) (Create (z .domain) (z .guarantee) (z .quota) (z .placements) (z .limit)) (createdDomain (t .config) (z .guarantee) (z .quota) (z .placements) (z .limit)) store words bytes s
+    (reserving-outcome t (z .domain) (z .sight) command (createdDomain (t .config) (z .guarantee) (z .quota) (z .placements) (z .limit)) store words bytes s
     (not-false _ (c .before .before .before .before .before .before .if1 .left))
     (create-id (z .sight) (z .domain) (z .guarantee) (z .quota) (z .placements) (z .limit) told)
-    (sym (create-asked t (z .domain) (z .sight) (z .guarantee) (z .quota) (z .placements) (z .limit) store (lengthsOf v words bytes) s) ∙ told) refl refl refl)
+    (sym (create-asked t (z .domain) (z .sight) (z .guarantee) (z .quota) (z .placements) (z .limit) store (calling command store words bytes) s) ∙ told) refl refl refl)
 
 pub create-spec : {M : Type 1} → statement M
 create-spec =

@@ -14,7 +14,8 @@ use Rattle.log_pages.specs.LogPages.{lengthSeen, markedBytes}
 use Rattle.model.specs.declared.answer.Refusal.the-variants.{Output}
 use Rattle.model.specs.declared.command.Command.the-variants.{List as Listing}
 use Rattle.rules.proofs.Drive.{overwritten-nothing}
-use Rattle.rules.specs.Effects.{effect, lengthsOf}
+use Rattle.rules.specs.Calls.{calling}
+use Rattle.rules.specs.Effects.{effect}
 use Rattle.survey.proofs.Seeing.{held-seen, limits-seen}
 use Rattle.tables.proofs.Answering.{accepted-call, first-part, later-no, sound-verdict, unsound-call}
 use Rattle.tables.specs.Serving.{drive}
@@ -29,7 +30,7 @@ passed c = sym (c .before .before .domain-verdict .ensures) ∙ ap verdictNumber
 
 returns : tie.Need-returns
 returns c = let a = c .before .before .before .before .args in λ t store words s l.
-    unsound-call (drive t store) (Listing (a .domain) (a .listed)) words (a .bytes .now) (sym (s .tested) ∙ not-true _ (c .if1 .taken))
+    unsound-call (drive t store) (calling (Listing (a .domain) (a .listed)) store words (a .bytes .now)) words (a .bytes .now) (sym (s .tested) ∙ not-true _ (c .if1 .taken))
 
 domain-verdict-requires : tie.Need-domain-verdict-requires
 domain-verdict-requires c κs = search needs
@@ -54,7 +55,7 @@ returns-2 c = let a = c .before .before .before .before .before .before .before 
     let room = length (a .bytes .now) in
     let e = not-false _ (c .before .before .before .before .before .if1 .left) in
     let short : leb (lengthSeen (a .sight) (a .listed)) room ≡ false = lt-leb (lengthSeen (a .sight) (a .listed)) room (rw (← c .before .list-length .ensures) (c .if2 .taken)) in
-    later-no (drive t store) (Listing (a .domain) (a .listed)) words (a .bytes .now) Output (sym (s .tested) ∙ e)
+    later-no (drive t store) (calling (Listing (a .domain) (a .listed)) store words (a .bytes .now)) words (a .bytes .now) Output (sym (s .tested) ∙ e)
     (sym (list-asked t (a .domain) (a .listed) (a .sight) store (length store) (length words) room s e (passed (c .before .before)) ∙ rw short))
 
 put-list-requires : tie.Need-put-list-requires
@@ -70,11 +71,11 @@ put-list-requires c κs = let z = c .before .before .before .before .before .bef
 returns-3 : tie.Need-returns-3
 returns-3 c = let a = c .before .before .before .before .before .before .before .before .args in λ t store words s l.
     let v = drive t store in
-    let lent = lengthsOf v words (a .bytes .now) in
+    let call = calling (Listing (a .domain) (a .listed)) store words (a .bytes .now) in
     let reason = c .before .reason .given .0 .0 in
-    later-no v (Listing (a .domain) (a .listed)) words (a .bytes .now) reason (sym (s .tested) ∙ not-false _ (c .before .before .before .before .if1 .left))
-    (first-part v lent (Listing (a .domain) (a .listed)) 2 reason
-    (sym (ap verdictNumber (c .before .reason .given .1)) ∙ c .before .before .before .domain-verdict .ensures ∙ domain-asked t (a .domain) (a .listed) (a .sight) store lent s))
+    later-no v call words (a .bytes .now) reason (sym (s .tested) ∙ not-false _ (c .before .before .before .before .if1 .left))
+    (first-part v call 7 reason
+    (sym (ap verdictNumber (c .before .reason .given .1)) ∙ c .before .before .before .domain-verdict .ensures ∙ domain-asked t (a .domain) (a .listed) (a .sight) store call s))
 
 same-length : tie.Need-same-length
 same-length c = search needs
@@ -83,13 +84,13 @@ returns-4 : tie.Need-returns-4
 unfolding effect firstNo
 returns-4 c = let a = c .before .before .before .before .before .before .before .before .before .before .before .before .before .args in λ t store words s l.
     let v = drive t store in
-    let command = Listing (a .domain) (a .listed) in
+    let call = calling (Listing (a .domain) (a .listed)) store words (a .bytes .now) in
     let room = length (a .bytes .now) in
     let e = not-false _ (c .before .before .before .before .before .before .before .before .before .if1 .left) in
     let fits : leb (lengthSeen (a .sight) (a .listed)) room ≡ true = le-leb (lengthSeen (a .sight) (a .listed)) room (rw (← c .before .before .before .before .before .list-length .ensures) (c .before .before .before .before .if2 .left)) in
     let same : markedBytes (a .marks .now) (a .sight .config .blocks) ≡ listedBytes t (a .domain) (a .listed) = rw (s .same-config) (marked-listed t (a .domain) (a .listed) (a .sight) (a .marks .now) l e) in
-    accepted-call v command words (a .bytes .now) _ (listedBytes t (a .domain) (a .listed))
-    (sound-verdict v (lengthsOf v words (a .bytes .now)) command (sym (s .tested) ∙ e)
+    accepted-call v call words (a .bytes .now) _ (listedBytes t (a .domain) (a .listed))
+    (sound-verdict v call (sym (s .tested) ∙ e)
     ∙ list-asked t (a .domain) (a .listed) (a .sight) store (length store) (length words) room s e (passed (c .before .before .before .before .before .before))
     ∙ rw fits)
     refl refl (sym (overwritten-nothing words)) (fills-list t (a .domain) (a .listed)) (c .before .before .put-list .ensures ∙ rw same)

@@ -11,7 +11,9 @@ use Rattle.log_pages.specs.LogPages.{pageQuestions}
 use Rattle.model.specs.declared.command.Command.the-variants.{Page}
 use Rattle.rules.proofs.Drive.{overwritten-nothing}
 use Rattle.rules.proofs.LogPages.{page-length}
-use Rattle.rules.specs.Effects.{effect, lengthsOf}
+use Rattle.rules.specs.Calls.{calling}
+use Rattle.rules.specs.Drive.{blockAt}
+use Rattle.rules.specs.Effects.{effect}
 use Rattle.rules.specs.LogPages.{page}
 use Rattle.survey.proofs.Seeing.{limits-seen}
 use Rattle.tables.proofs.Answering.{accepted-call, later-no, sound-verdict, unsound-call}
@@ -27,7 +29,7 @@ passed c = sym (c .before .before .page-verdict .ensures) ∙ ap verdictNumber (
 
 returns : tie.Need-returns
 returns c = let a = c .before .before .before .args in λ t store words s b.
-    unsound-call (drive t store) (Page (a .domain) (a .block)) words (a .bytes .now) (sym (s .tested) ∙ not-true _ (c .if1 .taken))
+    unsound-call (drive t store) (calling (Page (a .domain) (a .block)) store words (a .bytes .now)) words (a .bytes .now) (sym (s .tested) ∙ not-true _ (c .if1 .taken))
 
 page-verdict-requires : tie.Need-page-verdict-requires
 page-verdict-requires c κs = search needs
@@ -51,7 +53,7 @@ put-counts-requires c κs = let z = c .before .before .before .before .before .b
 returns-2 : tie.Need-returns-2
 returns-2 c = let a = c .before .before .before .before .before .before .before .args in λ t store words s b.
     let e = not-false _ (c .before .before .before .before .if1 .left) in
-    later-no (drive t store) (Page (a .domain) (a .block)) words (a .bytes .now) (c .before .reason .given .0 .0) (sym (s .tested) ∙ e)
+    later-no (drive t store) (calling (Page (a .domain) (a .block)) store words (a .bytes .now)) words (a .bytes .now) (c .before .reason .given .0 .0) (sym (s .tested) ∙ e)
     (sym (ap verdictNumber (c .before .reason .given .1)) ∙ c .before .before .before .page-verdict .ensures ∙ page-asked t (a .domain) (a .block) (length (a .bytes .now)) (a .sight) store (length store) (length words) s b e)
 
 same-length : tie.Need-same-length
@@ -65,12 +67,16 @@ returns-3 c = let a = c .before .before .before .before .before .before .before 
     let told = passed (c .before .before .before .before .before .before .before .before .before .before) in
     let e : a .sight .sound ≡ true = not-false _ (c .before .before .before .before .before .before .before .before .before .before .before .before .before .if1 .left) in
     let same = b .same-block e (rw (← s .same-config) (page-inside (a .sight) (a .domain) (a .block) room told)) in
-    accepted-call v (Page (a .domain) (a .block)) words (a .bytes .now) _ (page t (a .block))
-    (sound-verdict v (lengthsOf v words (a .bytes .now)) (Page (a .domain) (a .block)) (sym (s .tested) ∙ e)
+    let call = calling (Page (a .domain) (a .block)) store words (a .bytes .now) in
+    accepted-call v call words (a .bytes .now) _ (page (t .config) (a .block) (blockAt t (a .block)))
+    (sound-verdict v call (sym (s .tested) ∙ e)
     ∙ sym (page-asked t (a .domain) (a .block) room (a .sight) store (length store) (length words) s b e)
     ∙ told)
     refl refl (sym (overwritten-nothing words)) refl
-    (c .before .before .put-counts .ensures t (a .block) (s .same-config) same ∙ rw (c .before .before .before .before .before .before .put-identity .ensures t same) (fill-parts 12 (page t (a .block)) (a .bytes .now) (rw page-length (omega arith))))
+    (c .before .before .put-counts .ensures (a .block)
+    ∙ rw (c .before .before .before .before .before .before .put-identity .ensures (a .sight .config))
+    (fill-parts 12 (page (a .sight .config) (a .block) (a .sight .block)) (a .bytes .now) (rw page-length (omega arith))
+    ∙ rw (s .same-config, same)))
 
 pub page-spec : {M : Type 1} → statement M
 page-spec =

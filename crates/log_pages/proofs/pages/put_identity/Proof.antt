@@ -1,13 +1,11 @@
 -- Six fields, one behind the other: the page's first.
 use Prim.Native.Nat.{_≤_}
-use mathlib.Core.Path.{refl, ap, _∙_}
+use mathlib.Core.Path.{refl}
 use native.Mathlib.Omega.{arith}
 use lib.ListN.{length}
 use Rattle.geometry.specs.Bytes.{littleEndian}
 use Rattle.log_pages.proofs.Filling.{next-field, one-field}
-use Rattle.model.specs.declared.block.Block.{Block}
-use Rattle.rules.specs.Drive.{blockAt}
-use Rattle.rules.specs.LogPages.{page, placementField, stateByte}
+use Rattle.rules.specs.LogPages.{bytesOf, page, placementField, stateByte}
 use borrow.Author.Needs.{needs}
 use Rattle.log_pages.proofs.pages.put_identity.Statement.{statement}
 use Rattle.log_pages.proofs.pages.put_identity.Tie as tie
@@ -43,15 +41,15 @@ same-length : tie.Need-same-length
 same-length c = search needs
 
 returns : tie.Need-returns
-unfolding page littleEndian
-returns c = let a = c .before .before .before .before .before .before .before .before .before .before .before .before .before .before .before .before .before .before .before .before .before .before .before .before .before .before .before .before .args in λ t same. let b = blockAt t (a .number) in
+unfolding page bytesOf littleEndian
+returns c = let a = c .before .before .before .before .before .before .before .before .before .before .before .before .before .before .before .before .before .before .before .before .before .before .before .before .before .before .before .before .args in λ config. let b = a .block in
     let l : 0 ≤ length (a .bytes .now) = omega arith in
     let f1 = one-field 2 1 refl (c .before .before .before .before .before .before .before .before .before .before .before .before .before .before .before .before .before .before .before .before .before .before .before .before .before .put-field .ensures) in
     let f2 = next-field 1 0 refl l f1 (c .before .before .before .before .before .before .before .before .before .before .before .before .before .before .before .before .before .before .before .before .before .put-field2 .ensures) in
-    let f3 = next-field 1 (stateByte (b .state)) (c .before .before .before .before .before .before .before .before .before .before .before .before .before .before .before .before .before .state-byte .ensures ∙ ap (λ (x : Block). stateByte (x .state)) same) l f2 (c .before .before .before .before .before .before .before .before .before .before .before .before .before .before .before .before .put-field3 .ensures) in
+    let f3 = next-field 1 (stateByte (b .state)) (c .before .before .before .before .before .before .before .before .before .before .before .before .before .before .before .before .before .state-byte .ensures .0) l f2 (c .before .before .before .before .before .before .before .before .before .before .before .before .before .before .before .before .put-field3 .ensures) in
     let f4 = next-field 4 (a .number) refl l f3 (c .before .before .before .before .before .before .before .before .before .before .before .before .put-field4 .ensures) in
-    let f5 = next-field 2 (placementField (b .state)) (c .before .before .before .before .before .before .before .before .placement-field .ensures ∙ ap (λ (x : Block). placementField (x .state)) same) l f4 (c .before .before .before .before .before .before .before .put-field5 .ensures) in
-    next-field 2 (b .holder) (ap (λ (x : Block). x .holder) same) l f5 (c .before .before .put-field6 .ensures) .are
+    let f5 = next-field 2 (placementField (b .state)) (c .before .before .before .before .before .before .before .before .placement-field .ensures) l f4 (c .before .before .before .before .before .before .before .put-field5 .ensures) in
+    next-field 2 (b .holder) refl l f5 (c .before .before .put-field6 .ensures) .are
 
 pub put-identity-spec : {M : Type 1} → statement M
 put-identity-spec =

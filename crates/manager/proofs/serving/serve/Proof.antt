@@ -53,8 +53,7 @@ use Rattle.model.proofs.command.Command as command
 use Rattle.model.proofs.command.Command.Laws as command-laws
 use Rattle.model.proofs.table.Table as table
 use Rattle.model.proofs.table.Table.Laws as table-laws
-use Rattle.rules.specs.Effects.{Serves}
-use Rattle.tables.specs.Serving.{answering, drive, served}
+use Rattle.tables.specs.Serving.{ServesCommand, answering, served}
 use Rattle.tables.proofs.served.Served as both
 use Rattle.tables.proofs.served.Served.Laws as both-laws
 use Rattle.manager.proofs.serving.serve_in as inner
@@ -122,7 +121,7 @@ module _ {M : Type 1} (𝓤 : URA M) (H : Heap 𝓤) (A : Atoms 𝓤) (W : Given
 
   -- The command is served: the table is s after it, and the answer a.
   abbrev Served : Table → Answer → Lists → Type 0
-  Served s a z = Serves (drive t (store .now)) k (words .now) (bytes .now) (served (answering s a) (z .0) (z .1 .0) (z .1 .1))
+  Served s a z = ServesCommand t k (store .now) (words .now) (bytes .now) (served (answering s a) (z .0) (z .1 .0) (z .1 .1))
 
   -- With the table and the answer returned, the contract is met.
   exits : (s : Table) (a : Answer) (z : Lists) (u : Val) → Served s a z → Lengths z → Is both.the-row (answering s a) (u ∷ [])

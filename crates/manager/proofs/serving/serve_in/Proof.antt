@@ -53,9 +53,8 @@ use Rattle.model.proofs.command.Command as command
 use Rattle.model.proofs.command.Command.Laws as command-laws
 use Rattle.model.proofs.table.Table as table
 use Rattle.rules.specs.Drive.{clearBlock, domainAt}
-use Rattle.rules.specs.Effects.{Serves}
 use Rattle.tables.specs.Changing.{changedBlocks, changedBy, presentBlocks}
-use Rattle.tables.specs.Serving.{answering, drive, served}
+use Rattle.tables.specs.Serving.{ServesCommand, answering, served}
 use Rattle.tables.specs.declared.change.Outcome.{Outcome}
 use Rattle.tables.proofs.change.Outcome as outcome
 use Rattle.tables.proofs.change.Outcome.Laws as outcome-laws
@@ -131,7 +130,7 @@ unfolding Viewed
 viewed t k v zs same is seen = (is ∙ ap (λ (c : Config). subjectOf c k) (sym same), (t, seen))
 
 serves : (t : Table) (k : Command) (v : View) (zs ss ws ys : List ℕ) (r : Outcome) (ss′ ws′ ys′ : List ℕ) → Views t v zs
-    → Answered v k zs ss ws ys r ss′ ws′ ys′ → Serves (drive t ss) k ws ys (served (answering (changedBy (r .change) t) (r .answer)) ss′ ws′ ys′)
+    → Answered v k zs ss ws ys r ss′ ws′ ys′ → ServesCommand t k ss ws ys (served (answering (changedBy (r .change) t) (r .answer)) ss′ ws′ ys′)
 unfolding Answered
 serves t k v zs ss ws ys r ss′ ws′ ys′ seen said = said t seen
 
@@ -170,7 +169,7 @@ module _ {M : Type 1} (𝓤 : URA M) (H : Heap 𝓤) (A : Atoms 𝓤) (W : Given
   -- With the borrow closed over the changed table, the contract is met.
   module _ (r : Outcome) (z : Ends) (ov : Val) (is : Is outcome.the-row r (ov ∷ []))
       (long : Lengths 𝓤 H A W mem″ run κ₁ κ₂ κ₃ q₁ q₂ q₃ store words bytes z)
-      (done-so : Serves (drive t (store .now)) k (words .now) (bytes .now) (served (answering (changedBy (r .change) t) (r .answer)) (z .0) (z .1 .0) (z .1 .1))) where
+      (done-so : ServesCommand t k (store .now) (words .now) (bytes .now) (served (answering (changedBy (r .change) t) (r .answer)) (z .0) (z .1 .0) (z .1 .1))) where
     abbrev after : Table
     after = changedBy (r .change) t
 

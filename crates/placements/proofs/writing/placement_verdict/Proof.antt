@@ -7,7 +7,7 @@ use Rattle.geometry.proofs.Laws.Shape.{both}
 use Rattle.geometry.specs.Questions.{firstNo}
 use Rattle.model.specs.Answers.{numberOf}
 use Rattle.placements.specs.Asking.{placementArguments, placementState}
-use Rattle.rules.proofs.Questions.{yes-at}
+use Rattle.rules.proofs.Questions.{yes-in}
 use Rattle.rules.specs.Questions.{isCount}
 use Rattle.survey.proofs.Seeing.{limits-seen}
 use Rattle.tables.proofs.Refusals.{refusal-positive}
@@ -29,7 +29,7 @@ unfolding positive placementArguments
 placement-state-requires c κs = let z = c .before .before .before in let a = z .args in
     let qs = placementArguments (a .sight) (a .entries) (a .room) (a .domain) (a .placement) (a .count) in
     let e : firstNo qs ≡ 0 = sym (c .before .before .placement-arguments .ensures) ∙ ap verdictNumber (c .enum-told .given .1) in
-    (z .pre, (yes-at 1 qs refl e, both (ltb (a .placement) (a .sight .domain .placements)) (isCount (a .count)) (yes-at 3 qs refl e) .1))
+    (z .pre, (yes-in 4 qs refl e, both (ltb (a .placement) (a .sight .domain .placements)) (isCount (a .count)) (yes-in 6 qs refl e) .1))
 
 returns : tie.Need-returns
 returns c = let a = c .before .before .before .before .args in let reason = c .before .reason .given .0 .0 in λ t s.

@@ -9,16 +9,13 @@ use Rattle.geometry.proofs.Laws.Shape.{both, by-test}
 use Rattle.geometry.specs.Shape.{between}
 use Rattle.model.specs.declared.table.Domain.{Domain}
 use Rattle.rules.proofs.Counting.{by-eq}
-use Rattle.survey.specs.Clauses.{domainSound}
+use Rattle.rules.specs.Soundness.{domainSound, quotaKept}
 use borrow.Author.Needs.{needs}
 use Rattle.survey.proofs.clauses.domain_sound.Statement.{statement}
 use Rattle.survey.proofs.clauses.domain_sound.Tie as tie
 
-abbrev counts : Domain → ℕ → ℕ → Bool
-counts r blocks held = leb (r .reserved) (r .quota) && leb (r .quota) blocks && leb held (r .quota)
-
 of-existing : (r : Domain) (blocks held opened : ℕ) → r .exists ≡ true
-    → domainSound r blocks held opened ≡ counts r blocks held && (between 1 16 (r .placements) && between (r .placements) 256 (r .limit) && leb opened (r .limit))
+    → domainSound blocks held opened r ≡ quotaKept blocks held r && (between 1 16 (r .placements) && between (r .placements) 256 (r .limit) && leb opened (r .limit))
 unfolding domainSound
 of-existing r blocks held opened e = rw e (and-true _)
 
@@ -32,7 +29,7 @@ none-held reserved quota blocks held e f =
     (λ p. rw (eq-eqb held 0 p, le-leb held 0 (omega (arith, p))))
     (λ p. rw (ne-eqb held 0 p, lt-leb held 0 (omega arith))))
 
-of-missing : (r : Domain) (blocks held opened : ℕ) → r .exists ≡ false → domainSound r blocks held opened ≡ eqb held 0 && clear r
+of-missing : (r : Domain) (blocks held opened : ℕ) → r .exists ≡ false → domainSound blocks held opened r ≡ eqb held 0 && clear r
 unfolding domainSound
 of-missing r blocks held opened e = rw (e, and-true) (by-test (clear r)
     (λ q.
@@ -41,7 +38,7 @@ of-missing r blocks held opened e = rw (e, and-true) (by-test (clear r)
     let q2 = both _ (eqb (r .placements) 0) (q3 .0) in
     let q1 = both (eqb (r .reserved) 0) (eqb (r .quota) 0) (q2 .0) in
     ap (λ (c : Bool). c && clear r) (none-held (r .reserved) (r .quota) blocks held (eqb-true (r .reserved) 0 (q1 .0)) (eqb-true (r .quota) 0 (q1 .1))))
-    (λ q. ap (λ (c : Bool). counts r blocks held && c) q ∙ off (counts r blocks held) ∙ sym (ap (λ (c : Bool). eqb held 0 && c) q ∙ off (eqb held 0))))
+    (λ q. ap (λ (c : Bool). quotaKept blocks held r && c) q ∙ off (quotaKept blocks held r) ∙ sym (ap (λ (c : Bool). eqb held 0 && c) q ∙ off (eqb held 0))))
   where
     off : (c : Bool) → c && false ≡ false
     off true = refl

@@ -10,8 +10,8 @@ is-listed-requires c κs = search needs
 list-mark-requires : tie.Need-list-mark-requires
 list-mark-requires c κs = search needs
 
-wear-requires : tie.Need-wear-requires
-wear-requires c κs = search needs
+wear-index-requires : tie.Need-wear-index-requires
+wear-index-requires c κs = search needs
 
 mul-result : tie.Need-mul-result
 mul-result c = search needs
@@ -19,9 +19,12 @@ mul-result c = search needs
 add-result : tie.Need-add-result
 add-result c = search needs
 
+cast-result : tie.Need-cast-result
+cast-result c = search needs
+
 returns : tie.Need-returns
 unfolding descriptorCode
-returns c = (rw (c .before .before .before .before .if1 .taken, ← c .before .before .before .is-listed .ensures, c .before .before .if2 .taken, c .wear .ensures .0, c .before .list-mark .ensures .0), omega (arith, c .wear .ensures .1, c .before .list-mark .ensures .1))
+returns c = (rw (c .before .before .before .before .if1 .taken, ← c .before .before .before .is-listed .ensures, c .before .before .if2 .taken, c .wear-index .ensures .0, c .before .list-mark .ensures .0), omega (arith, c .wear-index .ensures .1, c .before .list-mark .ensures .1))
 
 returns-2 : tie.Need-returns-2
 unfolding descriptorCode
@@ -37,9 +40,10 @@ descriptor-code-spec =
     (tie.spec
     is-listed-requires
     list-mark-requires
-    wear-requires
+    wear-index-requires
     mul-result
     add-result
+    cast-result
     returns
     returns-2
     returns-3)

@@ -4,7 +4,7 @@ use mathlib.Core.Bool.{true}
 use mathlib.Core.List.{List, _++_}
 use mathlib.Core.Path.{_≡_, sym, ap, _∙_}
 use native.Mathlib.Omega.{arith}
-use lib.ListN.{drop, length, take}
+use lib.ListN.{length}
 use borrow.Author.Tests.{not-false, not-true}
 use borrow.Author.Needs.{needs}
 use Rattle.buffers.proofs.Stretches.{Stretch, stretch}
@@ -14,7 +14,8 @@ use Rattle.geometry.specs.Shape.{adusPerBlock, withinLimits}
 use Rattle.geometry.specs.declared.shape.Config.{Config}
 use Rattle.model.specs.declared.command.Command.the-variants.{Read}
 use Rattle.model.specs.declared.table.Table.{Table}
-use Rattle.rules.specs.Effects.{lengthsOf}
+use Rattle.rules.proofs.Questions.{after, before}
+use Rattle.rules.specs.Calls.{calling}
 use Rattle.rules.specs.Questions.{questions}
 use Rattle.survey.proofs.Seeing.{limits-seen}
 use Rattle.survey.specs.Sight.{Sees, SeesBlock}
@@ -39,7 +40,7 @@ fields-read c = c .word-fields .ensures ∙ rw (within (c .before .before))
 asked : (c : tie.After-word-fields) → let z = c .before .before .before .before .before .before .args in let a = c .word-fields .result in let x = z .sight in
     (t : Table) (bytes : List ℕ) → Sees t (z .domain) x → SeesBlock t (fieldsOf (t .config) (z .address) .block) x
     → firstNo (readArguments x (length (z .store .now)) (length (z .words .now)) (z .domain) a (z .count) ++ readState x (z .domain) a (z .count) (z .expected))
-    ≡ firstNo (take 8 (drop 1 (questions (drive t (z .store .now)) (lengthsOf (drive t (z .store .now)) (z .words .now) bytes) (Read (z .domain) (z .address) (z .count) (z .expected)))))
+    ≡ firstNo (before 16 (after 2 (questions (drive t (z .store .now)) (calling (Read (z .domain) (z .address) (z .count) (z .expected)) (z .store .now) (z .words .now) bytes))))
 asked c t bytes s b =
     let z = c .before .before .before .before .before .before .args in
     rw (fields-read c ∙ ap (λ (shape : Config). fieldsOf shape (z .address)) (s .same-config))
@@ -79,7 +80,7 @@ entries-left c = omega (arith, found c .inside, may-be-read (c .before .before) 
 
 returns : tie.Need-returns
 returns c = let z = c .before .before .before .before .args in λ t bytes s b.
-    unsound-call (drive t (z .store .now)) (Read (z .domain) (z .address) (z .count) (z .expected)) (z .words .now) bytes (sym (s .tested) ∙ not-true _ (c .if1 .taken))
+    unsound-call (drive t (z .store .now)) (calling (Read (z .domain) (z .address) (z .count) (z .expected)) (z .store .now) (z .words .now) bytes) (z .words .now) bytes (sym (s .tested) ∙ not-true _ (c .if1 .taken))
 
 word-fields-requires : tie.Need-word-fields-requires
 word-fields-requires c κs = search needs

@@ -7,7 +7,7 @@ use Rattle.geometry.proofs.Laws.Shape.{both}
 use Rattle.geometry.specs.Address.{isBlock, isOffset}
 use Rattle.geometry.specs.Questions.{firstNo}
 use Rattle.model.specs.Answers.{numberOf}
-use Rattle.rules.proofs.Questions.{yes-at}
+use Rattle.rules.proofs.Questions.{yes-in}
 use Rattle.rules.specs.Questions.{isCount}
 use Rattle.tables.proofs.Refusals.{refusal-positive}
 use Rattle.tables.specs.Verdicts.{verdictNumber}
@@ -29,7 +29,7 @@ unfolding positive readArguments
 read-state-requires c κs = let z = c .before .before .before in let a = z .args in let shape = a .sight .config in
     let qs = readArguments (a .sight) (a .entries) (a .room) (a .domain) (a .address) (a .count) in
     let e : firstNo qs ≡ 0 = sym (c .before .before .read-arguments .ensures) ∙ ap verdictNumber (c .enum-told .given .1) in
-    (z .pre, both (isBlock shape (a .address .block) && isOffset shape (a .address .offset)) (isCount (a .count)) (yes-at 3 qs refl e) .1)
+    (z .pre, both (isBlock shape (a .address .block) && isOffset shape (a .address .offset)) (isCount (a .count)) (yes-in 6 qs refl e) .1)
 
 returns : tie.Need-returns
 returns c = let a = c .before .before .before .before .args in let reason = c .before .reason .given .0 .0 in

@@ -37,8 +37,7 @@ use Rattle.model.proofs.answer.Answer.Laws as answer-laws
 use Rattle.model.proofs.command.Command as command
 use Rattle.model.proofs.command.Command.Laws as command-laws
 use Rattle.model.proofs.table.Table as table
-use Rattle.rules.specs.Effects.{Serves}
-use Rattle.tables.specs.Serving.{answering, drive, served}
+use Rattle.tables.specs.Serving.{ServesCommand, answering, served}
 use Rattle.manager.proofs.serve_in as serving
 use Rattle.trial.specs.Commands.{commandIn}
 use Rattle.trial.specs.Trials.{summed}
@@ -167,7 +166,7 @@ module _ {M : Type 1} (𝓤 : URA M) (H : Heap 𝓤) (A : Atoms 𝓤) (W : Given
       Ends = Table × (List ℕ × (List ℕ × List ℕ))
 
       abbrev pub Says : Answer → Ends → Type 0
-      Says a z = Serves (drive (t .now) (store .now)) k (words .now) (bytes .now) (served (answering (z .0) a) (z .1 .0) (z .1 .1 .0) (z .1 .1 .1))
+      Says a z = ServesCommand (t .now) k (store .now) (words .now) (bytes .now) (served (answering (z .0) a) (z .1 .0) (z .1 .1 .0) (z .1 .1 .1))
 
       abbrev pub Lengths : Ends → Type 0
       Lengths z = (length (z .1 .0) ≡ length (store .now)) × ((length (z .1 .1 .0) ≡ length (words .now)) × (length (z .1 .1 .1) ≡ length (bytes .now)))

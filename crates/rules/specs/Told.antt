@@ -1,0 +1,51 @@
+-- Outputs that A tells apart, though their block numbers have the same serial or none: a block that A holds is never read as one that it
+-- does not, and of the end mark of a list every byte is kept.
+use Prim.Native.Nat.{ℕ}
+use mathlib.Core.List.{List, [], _∷_}
+use mathlib.Core.Path.{_≡_}
+use lib.ListN.{replicate}
+use Rattle.geometry.specs.Address.{wordOf}
+use Rattle.geometry.specs.Shape.{adus, planes}
+use Rattle.model.specs.declared.command.Command.the-variants.{Close, Create, Erase}
+use Rattle.rules.specs.Blocks.{anyBlock}
+use Rattle.rules.specs.Drive.{Drive}
+use Rattle.rules.specs.Example.{zeros}
+use Rattle.rules.specs.LogPages.{endMark}
+use Rattle.rules.specs.Observation.{Reply, addressOf, descriptorIn, observed, readPage}
+use Rattle.rules.specs.ProvedTable.{call, calls, small}
+use Rattle.rules.specs.Runs.{run}
+
+-- A (domain 1) and a neighbour (domain 2) each reserve a block and erase one: A has block 0 and the neighbour block 1, both with serial 1.
+abbrev pub oneEach : Drive
+oneEach =
+    run (calls (Create 1 (planes 1) (planes 0) 1 0 ∷ Create 2 (planes 1) (planes 0) 1 0 ∷ Erase 1 anyBlock ∷ Erase 2 anyBlock ∷ [])) zeros
+
+-- A descriptor of a block with this index, the address of a block's first ADU, and the answer of a block number.
+abbrev pub descriptorWith : ℕ → ℕ → List ℕ
+descriptorWith n index = n ∷ 0 ∷ 0 ∷ 0 ∷ index ∷ 0 ∷ 0 ∷ 0 ∷ []
+
+abbrev pub addressIn : ℕ → ℕ
+addressIn n = wordOf small (record { domain = 1; block = n; offset = adus 0 })
+
+-- The first 16 bytes of a page of block n.
+abbrev pub pageOf : ℕ → List ℕ
+pageOf n = 1 ∷ 0 ∷ 0 ∷ 8 ∷ n ∷ 0 ∷ 0 ∷ 0 ∷ replicate 8 0
+
+abbrev pub blockReply : ℕ → Reply
+blockReply n = record { answer = record { number = 0; values = n ∷ [] }; words = []; bytes = [] }
+
+pub record ToldApart : Type 0 where
+  -- The end mark, and a descriptor of the Free block 5.
+  pub end-or-free : ¬ (descriptorIn 1 oneEach endMark ≡ descriptorIn 1 oneEach (descriptorWith 5 0))
+  -- The end mark, and the same with 77 in the place of an index.
+  pub end-or-other : ¬ (descriptorIn 1 oneEach endMark ≡ descriptorIn 1 oneEach (255 ∷ 255 ∷ 255 ∷ 255 ∷ 77 ∷ 0 ∷ 0 ∷ 0 ∷ []))
+  -- A descriptor of A's block, and one of its neighbour's.
+  pub own-or-neighbours : ¬ (descriptorIn 1 oneEach (descriptorWith 0 0) ≡ descriptorIn 1 oneEach (descriptorWith 1 0))
+  -- An address in A's block, and one in its neighbour's.
+  pub address : ¬ (addressOf 1 oneEach (addressIn 0) ≡ addressOf 1 oneEach (addressIn 1))
+  -- A page of A's block, and one of its neighbour's.
+  pub page : ¬ (readPage 1 oneEach (pageOf 0) ≡ readPage 1 oneEach (pageOf 1))
+  -- The answers "block 0" and "block 1" to A's Close of block 0.
+  pub answer : ¬ (observed 1 oneEach (call (Close 1 0)) (blockReply 0) ≡ observed 1 oneEach (call (Close 1 0)) (blockReply 1))
+  -- But of a block that A holds the index is left out.
+  pub index-left-out : descriptorIn 1 oneEach (descriptorWith 0 0) ≡ descriptorIn 1 oneEach (descriptorWith 0 77)
