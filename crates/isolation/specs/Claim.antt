@@ -1,11 +1,14 @@
 -- Demand 3, and the expiry of open blocks, as one claim about whole runs of the program. Serials, coverage, quotas and what A holds are
--- read off the reference machine, which is never handed the program's table; answers and outputs are the program's.
+-- read off the reference machine, which is never handed the program's table; answers and outputs are the program's. The expiry is said of
+-- the program's own table; only the seconds that have passed are the reference machine's.
 use Prim.Native.Nat.{ℕ, suc, _+_, _≤_, _<_}
 use mathlib.Core.Bool.{true}
 use mathlib.Core.Path.{_≡_}
 use lib.ListN.{getD, length, take}
 use Rattle.geometry.specs.Address.{isDomainId}
+use Rattle.isolation.specs.Calls.{StartCall, configOf}
 use Rattle.isolation.specs.Runs.{Run, Untouched, callsOf, configuration, exchangesOf, first, programAfter, referenceAfter}
+use Rattle.manager.specs.Starting.{begun}
 use Rattle.model.specs.declared.block.Block.{Block}
 use Rattle.model.specs.declared.command.Command.the-variants.{Pulse}
 use Rattle.rules.specs.Calls.{Call, lending}
@@ -13,8 +16,10 @@ use Rattle.rules.specs.Claims.{Guaranteed}
 use Rattle.rules.specs.Countdown.{Expires, elapsed}
 use Rattle.rules.specs.Drive.{blockAt, isOpen}
 use Rattle.rules.specs.Noninterference.{Indistinguishable, Replied, fullyReserved, inputs}
+use Rattle.rules.specs.Start.{started}
 
--- Block n in the program's own table after i calls, and the call that comes next. (Behind the last one there is none; no table changes.)
+-- Block n in the program's own table after i calls, and the call that comes next. (Behind the last call a pulse of
+-- 0 seconds stands for it, which is never made; the table stays.)
 abbrev pub blockAfter : ℕ → ℕ → Run → Block
 blockAfter n i r = blockAt (programAfter i r .table) n
 
@@ -31,6 +36,8 @@ pub record Expiry (r : Run) (i n : ℕ) : Type 0 where
   pub expires : Expires n (nextCall i r) (programAfter i r) (programAfter (suc i) r)
 
 pub record Isolation : Type 0 where
+  -- Every start is answered, and gives the table, that the rules say.
+  pub starts : (s : StartCall) → begun (s .result) ≡ started (configOf s)
   -- Of every run: after every call the program's table and the run's store are the reference machine's, ..
   pub follows-reference : (r : Run) (i : ℕ) → programAfter i r ≡ referenceAfter i r
   -- .. every reply is what the rules give, ..

@@ -1,5 +1,5 @@
--- Two runs for which the hypotheses of noninterference hold: the two lists of `rules/specs/Example.antt`, in one of which the neighbours
--- fill the drive, as the program's calls: in one run of `serve`, in the other of `serve` and `serve_in` by turns.
+-- Two runs that meet the hypotheses of noninterference. Their calls are the two lists of rules/specs/Example.antt; in the second the
+-- neighbours fill the drive. The first run calls `serve` alone, the second `serve` and `serve_in` by turns.
 use Prim.Native.Nat.{_%_}
 use mathlib.Core.Bool.{true, false}
 use mathlib.Core.Path.{_≡_}

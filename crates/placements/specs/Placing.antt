@@ -15,7 +15,7 @@ use Rattle.model.specs.declared.block.Way.the-variants.{Placement}
 use Rattle.model.specs.declared.table.Domain.{Domain}
 use Rattle.model.specs.declared.table.Table.{Table}
 use Rattle.rules.specs.Blocks.{Written, chosenBlock, openedFor, userAddresses, writtenInto, writtenOnwards}
-use Rattle.rules.specs.Drive.{Drive, blockAt, domainAt, isFree, openBlock, size, withBlock, withDomain}
+use Rattle.rules.specs.Drive.{Drive, blockAdus, blockAt, capacity, domainAt, isFree, openBlock, size, withBlock, withDomain}
 use Rattle.placements.specs.declared.placing.Filled.{Filled}
 use Rattle.placements.specs.declared.placing.Onwards.{Onwards}
 use Rattle.survey.specs.Sight.{SameFree, foundIn}
@@ -44,7 +44,7 @@ nothingWritten v = record { drive = v; addresses = [] }
 abbrev pub stepInto : Option ℕ → ℕ → ℕ → ℕ → ℕ → Drive → Written
 stepInto none d p start count v = nothingWritten v
 stepInto (some n) d p start count v =
-    writtenInto d n (userAddresses start (min count (adusPerBlock (v .table .config) .0))) (openedFor d (Placement p) n v)
+    writtenInto d n (userAddresses start (min count (capacity (v .table) n .0))) (openedFor d (Placement p) n v)
 
 unfoldable pub oneStep : ℕ → ℕ → ℕ → ℕ → Drive → Written
 oneStep d p start count v = cond (eqb count 0) (nothingWritten v) (stepInto (chosenBlock (v .table)) d p start count v)
@@ -96,7 +96,7 @@ wentOn d r t = filledTable d (r .second) (r .two) (r .owner) (putIn (r .first) (
 -- The ADUs that the placement's open block still takes.
 abbrev pub roomOf : Found → Config → Block → ℕ
 roomOf found.Nothing c b = 0
-roomOf (found.Block n) c b = adusPerBlock c .0 - b .written .0
+roomOf (found.Block n) c b = blockAdus c n .0 - b .written .0
 
 abbrev pub roomSeen : Sight → ℕ
 roomSeen x = roomOf (x .found) (x .config) (x .block)
@@ -129,7 +129,7 @@ pub record MayPlace (x : Sight) (entries d count : ℕ) : Type 0 where
   pub most : count ≤ 256
   pub serials : x .domain .last + blocksIn (x .config) (count - roomSeen x) ≤ 4294967295
   pub open-inside : (n : ℕ) → x .found ≡ found.Block n → n < x .config .blocks
-  pub open-room : (n : ℕ) → x .found ≡ found.Block n → x .block .written .0 < adusPerBlock (x .config) .0
+  pub open-room : (n : ℕ) → x .found ≡ found.Block n → x .block .written .0 < blockAdus (x .config) n .0
 
 -- .. and of the table that it is seen of.
 pub record Places (t : Table) (d p : ℕ) (x : Sight) : Type 0 where

@@ -9,7 +9,7 @@ use lib.Dec.{eqb, leb, ltb}
 use lib.ListN.{drop, length, take}
 use borrow.Author.Tests.{eqb-true, le-leb, leb-false, leb-true, lt-leb, ltb-false, ltb-true}
 use Rattle.geometry.proofs.Laws.Shape.{by-test}
-use Rattle.geometry.specs.Shape.{adusPerBlock, withinLimits}
+use Rattle.geometry.specs.Shape.{withinLimits}
 use Rattle.geometry.specs.declared.shape.Adus.{Adus}
 use Rattle.geometry.specs.declared.shape.Config.{Config}
 use Rattle.model.specs.Blocks.{closed, closedFrom, countedDown, countedFrom, freed, oneMoreErase, opened, writtenFrom, writtenOn}
@@ -27,7 +27,7 @@ use Rattle.rules.specs.Calls.{Call, _asking_, profile}
 use Rattle.rules.specs.Countdown.{closesByPulse, elapsed, elapsedFrom, pulseOf}
 use Rattle.rules.specs.Counting.{implies}
 use Rattle.rules.specs.Domains.{deletedDomain, freedIfHeld}
-use Rattle.rules.specs.Drive.{Drive, blockAt, heldBy, isClosed, isClosedState, isFree, isFreeState, isOpen, isOpenState, openBlock, size, withBlock}
+use Rattle.rules.specs.Drive.{Drive, blockAt, heldBy, isClosed, isClosedState, isFree, isFreeState, isOpen, isOpenState, newCapacity, openBlock, size, withBlock}
 use Rattle.rules.specs.Effects.{accepted, effect, erasing, step, verdict}
 use Rattle.rules.specs.Questions.{isErasedAgain, isHeld, mayErase, questions}
 use Rattle.rules.specs.Runs.{begun, reference, run}
@@ -281,7 +281,7 @@ unfolding writtenOnwards
 onwards-along d p zero users v = along (v .table)
 onwards-along d p (suc more) users v =
     let t = v .table in
-    let perBlock = adusPerBlock (t .config) .0 in
+    let perBlock = newCapacity t .0 in
     let next = writtenNext d p (chosenBlock t) (take perBlock users) v in
     along-then
     (next-along d p (chosenBlock t) (take perBlock users) v (choice t (size t)))

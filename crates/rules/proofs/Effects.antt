@@ -11,7 +11,7 @@ use Rattle.geometry.proofs.Laws.Questions.{answered-number}
 use Rattle.geometry.proofs.Laws.Shape.{by-test}
 use Rattle.geometry.specs.Address.{fieldsOf}
 use Rattle.geometry.specs.Questions.{answered}
-use Rattle.geometry.specs.Shape.{adusPerBlock, stretchStart}
+use Rattle.geometry.specs.Shape.{stretchStart}
 use Rattle.model.specs.declared.block.Way.the-variants.{Placement}
 use Rattle.model.specs.declared.command.Command.{Command}
 use Rattle.model.specs.declared.command.Command.the-variants.{ChangeCapacity, Close, Create, Delete, Erase, Free, List as Listing, Page, Pulse, Read}
@@ -22,7 +22,7 @@ use Rattle.rules.specs.Blocks.{chosenBlock, erasedBlock, newBlocks, open
 use Rattle.rules.specs.Calls.{BytesDue, Call, _asking_, listBytes, noBytes, pageBytes, profile}
 use Rattle.rules.specs.Claims.{Unchanged}
 use Rattle.rules.specs.Counting.{numbersTo}
-use Rattle.rules.specs.Drive.{Drive, blockAt, openBlock, openOf, overwritten, size}
+use Rattle.rules.specs.Drive.{Drive, blockAt, newCapacity, openBlock, openOf, overwritten, size}
 use Rattle.rules.specs.Effects.{BytesFilled, Fills, FillsIf, Served, Serves, accepted, answerTo, byteCount, effect, erasing, step, verdict, wordsFilled}
 use Rattle.rules.specs.LogPages.{closedList, listLength, listOf, openMark, page}
 use Rattle.rules.specs.Questions.{questions}
@@ -99,7 +99,7 @@ onwards-length : (d p more : ℕ) (users : List ℕ) (v : Drive) → length (wri
 unfolding writtenOnwards
 onwards-length d p zero users v = omega arith
 onwards-length d p (suc more) users v =
-    let perBlock = adusPerBlock (v .table .config) .0 in
+    let perBlock = newCapacity (v .table) .0 in
     let next = writtenNext d p (chosenBlock (v .table)) (take perBlock users) v in
     rw (length-append)
     (omega (

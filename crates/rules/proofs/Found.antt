@@ -28,7 +28,7 @@ use Rattle.rules.specs.Blocks.{allOnes, anyBlock, chosenBlock, erasedBlo
 use Rattle.rules.specs.Calls.{Call, _asking_}
 use Rattle.rules.specs.Claims.{Found}
 use Rattle.rules.specs.Counting.{allTo}
-use Rattle.rules.specs.Drive.{Drive, blockAt, heldBy, isErasedState, isFreeState, isOpenFor, isPlacedState, openBlock, openBlockTo, size}
+use Rattle.rules.specs.Drive.{Drive, blockAdus, blockAt, heldBy, isErasedState, isFreeState, isOpenFor, isPlacedState, openBlock, openBlockTo, size}
 use Rattle.rules.specs.Effects.{answerTo, effect, erasing, step, verdict, wordsFilled}
 use Rattle.rules.specs.Questions.{isCount, questions, storeFits}
 use Rattle.rules.proofs.Blocks.{Choice, choice}
@@ -48,7 +48,7 @@ take-one (x ∷ l) zero k = refl
 take-one (x ∷ l) (suc n) k = take-one l n (omega (arith, k))
 
 -- An entry is what is stored at its address.
-entry-stored : (c : Config) (v : Drive) (a : FlashAddress) → Ready c v → a .block < c .blocks → a .offset .0 < adusPerBlock c .0
+entry-stored : (c : Config) (v : Drive) (a : FlashAddress) → Ready c v → a .block < c .blocks → a .offset .0 < blockAdus c (a .block) .0
     → stored v a 1 ≡ entry c v (a .block) (a .offset .0) ∷ []
 entry-stored c v a r n o =
     let place : ℕ = stretchStart c (a .block) .0 + a .offset .0 in
@@ -145,8 +145,8 @@ module _ (v : Drive) (call : Call) (whole : size (v .table) ≤ length (v .table
       let r = ready-if (answered-yes v (call asking k) 3 e) in
       let l : n < c .blocks = ltb-true n (c .blocks) (both (isBlock c n) (isCount count) (answered-yes v (call asking k) 6 e) .0) in
       let taken = erased-taken (b .state) (answered-yes v (call asking k) 10 e) in
-      let room = leb-true (b .written .0 + count .0) (adusPerBlock c .0) (answered-yes v (call asking k) 15 e) in
-      let fits : b .written .0 + length users ≤ adusPerBlock c .0 = omega (arith, room, length-row (userAddress start) (count .0)) in
+      let room = leb-true (b .written .0 + count .0) (blockAdus c n .0) (answered-yes v (call asking k) 15 e) in
+      let fits : b .written .0 + length users ≤ blockAdus c n .0 = omega (arith, room, length-row (userAddress start) (count .0)) in
       let held = into-held c d n users v r l fits taken in
       found-after v call k users e
       (λ i j.
@@ -177,7 +177,7 @@ module _ (v : Drive) (call : Call) (whole : size (v .table) ≤ length (v .table
   erased-block d n m e values = erasing-values d m (erasedBlock (v .table) n) v (rw e at values)
 
   pub erase-found : (d n m : ℕ) → verdict v (call asking Erase d n) ≡ 0 → answerTo v (call asking Erase d n) .values ≡ m ∷ []
-      → (a : FlashAddress) → a .block ≡ m → a .offset .0 < adusPerBlock c .0
+      → (a : FlashAddress) → a .block ≡ m → a .offset .0 < blockAdus c m .0
       → stored (step (call asking Erase d n) v) a 1 ≡ allOnes ∷ []
   unfolding questions
   erase-found d n m e values a same o =

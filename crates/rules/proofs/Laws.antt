@@ -7,7 +7,7 @@ use mathlib.Core.Option.{none, some}
 use mathlib.Core.Path.{_≡_, subst}
 use lib.ListN.{getD, length}
 use Rattle.geometry.specs.Questions.{refusal, success}
-use Rattle.geometry.specs.Shape.{adusPerBlock, planes, withinLimits}
+use Rattle.geometry.specs.Shape.{planes, withinLimits}
 use Rattle.geometry.specs.declared.address.FlashAddress.{FlashAddress}
 use Rattle.geometry.specs.declared.shape.Adus.{Adus}
 use Rattle.geometry.specs.declared.shape.Config.{Config}
@@ -22,7 +22,7 @@ use Rattle.rules.specs.Blocks.{allOnes, chosenBlock, stored, userAddress
 use Rattle.rules.specs.Calls.{Call, _asking_, ownDomain}
 use Rattle.rules.specs.Claims.{Chosen, ClosedList, Found, Gone, Layout, Reached, Unchanged, rising}
 use Rattle.rules.specs.Domains.{changedDomain}
-use Rattle.rules.specs.Drive.{Drive, blockAt, domainAt, heldCount, isFree, isOpen, size}
+use Rattle.rules.specs.Drive.{Drive, blockAt, capacity, domainAt, heldCount, isFree, isOpen, size}
 use Rattle.rules.specs.Effects.{BytesFilled, Served, Serves, answerTo, step, verdict, wordsFilled}
 use Rattle.rules.specs.LogPages.{OpenList, closedList, listLength, page, pageFields}
 use Rattle.rules.specs.Questions.{questions}
@@ -176,7 +176,7 @@ module _ (v : Drive) (k : Call) (whole : size (v .table) ≤ length (v .table .b
   pub erased-all-ones : (d n m : ℕ)
       → verdict v (k asking Erase d n) ≡ 0
       → answerTo v (k asking Erase d n) .values ≡ m ∷ []
-      → (a : FlashAddress) → a .block ≡ m → a .offset .0 < adusPerBlock (v .table .config) .0
+      → (a : FlashAddress) → a .block ≡ m → a .offset .0 < capacity (v .table) m .0
       → stored (step (k asking Erase d n) v) a 1 ≡ allOnes ∷ []
   erased-all-ones d n m accepted answer a same inside = found.erase-found v k whole own d n m accepted answer a same inside
 

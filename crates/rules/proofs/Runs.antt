@@ -10,7 +10,7 @@ use lib.ListN.{drop, length, take}
 use borrow.Author.Tests.{eq-eqb, eqb-true, lt-ltb}
 use Rattle.geometry.proofs.Laws.Shape.{both, by-test, is-between}
 use Rattle.geometry.specs.Address.{isDomainId}
-use Rattle.geometry.specs.Shape.{adus, adusPerBlock}
+use Rattle.geometry.specs.Shape.{adus}
 use Rattle.model.specs.Blocks.{Change, allChanges, changed, changedBy, countedDown, countedFrom, closing, counting, freeing, opening, opensNewly, writing}
 use Rattle.model.specs.declared.block.Block.{Block}
 use Rattle.model.specs.declared.block.State.{State}
@@ -26,7 +26,7 @@ use Rattle.rules.specs.Blocks.{chosenBlock, erasedBlock, newBlocks, next
 use Rattle.rules.specs.Calls.{Call, _asking_, ownDomain}
 use Rattle.rules.specs.Claims.{Gone, Reached}
 use Rattle.rules.specs.Domains.{deletedDomain}
-use Rattle.rules.specs.Drive.{Drive, blockAt, capacity, domainAt, heldBy, isOpen, isOpenState, openBlock, size, withBlock, withDomain, withEachBlock}
+use Rattle.rules.specs.Drive.{Drive, blockAt, capacity, domainAt, heldBy, isOpen, isOpenState, newCapacity, openBlock, size, withBlock, withDomain, withEachBlock}
 use Rattle.rules.specs.Effects.{accepted, effect, erasing, step, verdict}
 use Rattle.rules.specs.Questions.{questions}
 use Rattle.rules.proofs.Domains.{deleted-clear, deleted-holds-nothing, deleted-others}
@@ -146,7 +146,7 @@ module _ (d last period : ℕ) where
   unfolding writtenOnwards
   onwards-follows p zero users v q o = same (v .table)
   onwards-follows p (suc more) users v q o =
-      let perBlock = adusPerBlock (v .table .config) .0 in
+      let perBlock = newCapacity (v .table) .0 in
       let next = writtenNext d p (chosenBlock (v .table)) (take perBlock users) v in
       let here = next-follows p (chosenBlock (v .table)) (take perBlock users) v q o in
       then (here .0) (onwards-follows p more (drop perBlock users) (next .drive) q (here .1))

@@ -24,7 +24,7 @@ use Rattle.model.specs.declared.block.Way.{Way}
 use Rattle.model.specs.declared.block.Way.the-variants.{Placement}
 use Rattle.model.specs.declared.table.Table.{Table}
 use Rattle.rules.specs.Blocks.{Written, allOnes, chosenBlock, newBlocks, nextSerial, openedFor, room, writtenByPlacement, writtenFirst, writtenInto, writtenOnwards}
-use Rattle.rules.specs.Drive.{Drive, blockAt, clearBlock, isFree, isFreeState, openBlock, overwritten, size}
+use Rattle.rules.specs.Drive.{Drive, blockAt, capacity, clearBlock, isFree, isFreeState, openBlock, overwritten, size}
 use Rattle.rules.proofs.Blocks.{Choice, choice}
 use Rattle.rules.proofs.Counting.{get-row}
 use Rattle.rules.proofs.Effects.{written-length}
@@ -156,7 +156,7 @@ module _ (c : Config) where
     written-other m other = getD-set-other (v .table .blocks) n m _ clearBlock other
 
     pub written-record : blockAt (writtenInto d n users v .drive .table) n
-        ≡ writtenOn (adus (length users)) (adusPerBlock (v .table .config)) (blockAt (v .table) n)
+        ≡ writtenOn (adus (length users)) (capacity (v .table) n) (blockAt (v .table) n)
     unfolding writtenInto
     written-record = getD-set-same (v .table .blocks) n _ clearBlock (omega (arith, l, r .blocks))
 

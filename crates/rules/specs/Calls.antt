@@ -42,7 +42,8 @@ pub data Own : Type 0 where
   missing : (domain : ℕ) → Own
   nobody : Own
 
--- The block that it names: one that its domain holds, for Erase also a Free one, or one inside a flash address.
+-- The block that it names: one that question 9 wants held, for Erase held or Free (FFFFFFFFh names none), or the one inside a flash
+-- address.
 pub data Named : Type 0 where
   unnamed : Named
   heldBlock : (block : ℕ) → Named

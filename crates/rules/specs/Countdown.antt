@@ -13,8 +13,8 @@ use Rattle.rules.specs.Effects.{accepted, step}
 abbrev pub pulseOf : Drive → Call → ℕ
 pulseOf v k = cond (accepted v k) (profile (k .command) .seconds) 0
 
--- The seconds of the accepted pulses since block n was opened, of a block that is open after a list of calls: every call before which it
--- is not open begins them at 0.
+-- The seconds of the accepted pulses since block n was opened; meant for a block that is open after the list. A call that finds the block
+-- not open sets the sum to 0.
 unfoldable pub elapsedFrom : ℕ → ℕ → List Call → Drive → ℕ
 elapsedFrom seconds n [] v = seconds
 elapsedFrom seconds n (k ∷ ks) v =
@@ -28,10 +28,10 @@ abbrev pub closesByPulse : ℕ → Drive → ℕ → Call → Bool
 closesByPulse n v seconds k =
     isOpen (blockAt (v .table) n) && isClosed (blockAt (step (k asking Pulse seconds) v .table) n)
 
--- ---- What a call may do to an open block
+-- ---- How a call may open or close a block
 
 -- What call k, from drive v to drive w, makes of block n. If it opens it, it is accepted, counts an erase and gives a serial above the
--- last one that the block's domain had; if it is a pulse and closes it, no second is left.
+-- last one that the block's domain had; if it is a pulse and closes it, it is at least as long as the seconds that the block had left.
 pub record Expires (n : ℕ) (k : Call) (v w : Drive) : Type 0 where
   pub opens-by-erase : isOpen (blockAt (v .table) n) ≡ false
       → isOpen (blockAt (w .table) n) ≡ true

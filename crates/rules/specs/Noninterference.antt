@@ -17,7 +17,7 @@ use Rattle.rules.specs.Runs.{run}
 
 -- ---- A fully reserved domain
 
--- A's first Create is accepted, and every later one then gets 5. It is enough that none is refused for coverage.
+-- Demand 3 asks that A's first Create is accepted. Less is enough: while A is missing, no command of A is refused for coverage.
 abbrev pub notUncovered : ℕ → Drive → Call → Bool
 notUncovered a v k =
     implies (eqb (ownDomain (k .command)) a && not (exists (v .table) a)) (not (eqb (verdict v k) 14))

@@ -127,8 +127,7 @@ requestOf (Page d n) = page
 requestOf (Listing d which) = list which
 requestOf (Pulse seconds) = pulse seconds
 
--- What A puts into the machine with a call (01: a place): kind, arguments, the block that is named, and the lent lengths, which are
--- none of A's where the call is a pulse.
+-- What a call is to A (01: a place): kind, arguments, the block that is named, and the lent lengths; of a pulse not the lengths.
 pub record Input : Type 0 where
   pub request : Request
   pub names : Naming

@@ -103,7 +103,7 @@ heldBlockQuestions t d n =
     ∷ ask 9 (isHeld t d n)
     ∷ []
 
--- What each command is asked then, in 01's order: command c, of the call k.
+-- What each command is asked then, in 01's order. The first argument is the command of the call k.
 abbrev pub laterQuestions : Command → Drive → Call → List Question
 laterQuestions (Create d guarantee quota placements limit) v k =
     let t = v .table in

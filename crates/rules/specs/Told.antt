@@ -20,17 +20,18 @@ abbrev pub oneEach : Drive
 oneEach =
     run (calls (Create 1 (planes 1) (planes 0) 1 0 ∷ Create 2 (planes 1) (planes 0) 1 0 ∷ Erase 1 anyBlock ∷ Erase 2 anyBlock ∷ [])) zeros
 
--- A descriptor of a block with this index, the address of a block's first ADU, and the answer of a block number.
+-- A descriptor of a block with this index, and the address of a block's first ADU.
 abbrev pub descriptorWith : ℕ → ℕ → List ℕ
 descriptorWith n index = n ∷ 0 ∷ 0 ∷ 0 ∷ index ∷ 0 ∷ 0 ∷ 0 ∷ []
 
 abbrev pub addressIn : ℕ → ℕ
 addressIn n = wordOf small (record { domain = 1; block = n; offset = adus 0 })
 
--- The first 16 bytes of a page of block n.
+-- Bytes that begin like a page of block n: virtual device, state and block number; the other eight are 0.
 abbrev pub pageOf : ℕ → List ℕ
 pageOf n = 1 ∷ 0 ∷ 0 ∷ 8 ∷ n ∷ 0 ∷ 0 ∷ 0 ∷ replicate 8 0
 
+-- The answer of a block number.
 abbrev pub blockReply : ℕ → Reply
 blockReply n = record { answer = record { number = 0; values = n ∷ [] }; words = []; bytes = [] }
 

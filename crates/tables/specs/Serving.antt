@@ -1,4 +1,4 @@
--- What the exported functions are given and hand back, in the rules' terms.
+-- What `serve`, `serve_in` and each command's function are given and hand back, in the rules' terms.
 use Prim.Native.Nat.{ℕ}
 use mathlib.Core.List.{List}
 use Rattle.tables.specs.declared.served.Served.{Served}
@@ -32,6 +32,6 @@ answering t answer = record { answer = answer; table = t }
 abbrev pub refusing : Table → Refusal → Served
 refusing t reason = answering t (Refused reason)
 
--- What a function may hand back that is given a table, a command and these buffers.
+-- What a function that is given a table, a command and these buffers may hand back.
 abbrev pub ServesCommand : Table → Command → List ℕ → List ℕ → List ℕ → rules.Served → Type 0
 ServesCommand t c store words bytes r = rules.Serves (drive t store) (calling c store words bytes) words bytes r

@@ -15,7 +15,7 @@ use Rattle.model.specs.declared.answer.Answer.the-variants.{Done, Refused}
 use Rattle.model.specs.declared.answer.Refusal.the-variants.{Mismatch}
 use Rattle.model.specs.declared.block.Block.{Block}
 use Rattle.rules.specs.Blocks.{Written, matches}
-use Rattle.rules.specs.Drive.{Drive, heldBy, isOpenByErase, overwritten}
+use Rattle.rules.specs.Drive.{Drive, blockAdus, heldBy, isOpenByErase, overwritten}
 use Rattle.rules.specs.Questions.{isCount, userAddressesFit}
 use Rattle.survey.specs.declared.sight.Sight.{Sight}
 
@@ -55,7 +55,7 @@ unfoldable pub readState : Sight → ℕ → FlashAddress → Adus → ℕ → L
 readState x d a count expected =
     ask 8 (userAddressesFit expected (count .0))
     ∷ ask 9 (heldBy d (x .block) && eqb (a .domain) d)
-    ∷ ask 15 (leb (a .offset .0 + count .0) (x .block .written .0) && leb (a .offset .0 + count .0) (adusPerBlock (x .config) .0))
+    ∷ ask 15 (leb (a .offset .0 + count .0) (x .block .written .0) && leb (a .offset .0 + count .0) (blockAdus (x .config) (a .block) .0))
     ∷ []
 
 -- ---- Writes
@@ -67,7 +67,7 @@ pub record MayWriteIn (c : Config) (storeSize d n : ℕ) (b : Block) (count : �
   pub inside : n < c .blocks
   pub entries : storeSize ≡ storeLength c .0
   pub some-written : 1 ≤ count
-  pub fits : b .written .0 + count ≤ adusPerBlock c .0
+  pub fits : b .written .0 + count ≤ blockAdus c n .0
 
 -- The flash address of an ADU.
 abbrev pub addressIn : ℕ → ℕ → Adus → FlashAddress

@@ -6,13 +6,12 @@ use lib.ListN.{length}
 use borrow.Author.Tests.{leb-true, ltb-true}
 use Rattle.geometry.proofs.Laws.Shape.{both, is-between}
 use Rattle.geometry.specs.Address.{isBlock}
-use Rattle.geometry.specs.Shape.{adusPerBlock}
 use Rattle.geometry.specs.declared.shape.Adus.{Adus}
 use Rattle.model.specs.declared.command.Command.the-variants.{Close, Free, WriteByBlock, WriteByPlacement}
 use Rattle.model.specs.declared.table.Table.{Table}
 use Rattle.rules.specs.Blocks.{newBlocks, userAddress, userAddresses}
 use Rattle.rules.specs.Calls.{Call, _asking_}
-use Rattle.rules.specs.Drive.{Drive, blockAt, domainAt, heldCount, size}
+use Rattle.rules.specs.Drive.{Drive, blockAt, capacity, domainAt, heldCount, size}
 use Rattle.rules.specs.Effects.{effect, verdict}
 use Rattle.rules.specs.Questions.{isCount, questions}
 use Rattle.rules.proofs.Counting.{length-row}
@@ -65,7 +64,7 @@ module _ (v : Drive) (call : Call) (fit : Fit v call) where
         held = answered-yes v (call asking c) 9 e;
         fits =
             rw length-row
-            (leb-true (blockAt t n .written .0 + count .0) (adusPerBlock (t .config) .0) (answered-yes v (call asking c) 15 e));
+            (leb-true (blockAt t n .written .0 + count .0) (capacity t n .0) (answered-yes v (call asking c) 15 e));
       }
 
   pub block-sequel : (d n start : ℕ) (count : Adus) → verdict v (call asking WriteByBlock d n start count) ≡ 0

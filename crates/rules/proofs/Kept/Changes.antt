@@ -7,7 +7,7 @@ use native.Mathlib.Omega.{arith}
 use lib.ListN.{length, length-set, set}
 use lib.Seq.{getD-set-other, getD-set-same}
 use borrow.Author.Tests.{eq-eqb, eqb-true, ne-eqb}
-use Rattle.geometry.specs.Shape.{adus, adusPerBlock}
+use Rattle.geometry.specs.Shape.{adus}
 use Rattle.geometry.specs.declared.shape.Config.{Config}
 use Rattle.model.specs.Blocks.{closed, freed, opened, writtenOn}
 use Rattle.model.specs.declared.block.Block.{Block}
@@ -15,7 +15,7 @@ use Rattle.model.specs.declared.block.State.the-variants.{Open}
 use Rattle.model.specs.declared.block.Way.{Way}
 use Rattle.model.specs.declared.table.Domain.{Domain}
 use Rattle.rules.specs.Blocks.{closedAt, freedAt, nextSerial, openedFor, withLast, writtenInto}
-use Rattle.rules.specs.Drive.{Drive, blockAt, clearBlock, clearDomain, domainAt, heldBy, heldCount, isPlacedState, openCount, size, withBlock}
+use Rattle.rules.specs.Drive.{Drive, blockAdus, blockAt, capacity, clearBlock, clearDomain, domainAt, heldBy, heldCount, isPlacedState, openCount, size, withBlock}
 use Rattle.rules.specs.Observation.{Holding, entriesOf, holdingAt}
 use Rattle.rules.specs.Soundness.{wayBelow}
 use Rattle.rules.proofs.Drive.{domain-other}
@@ -40,7 +40,7 @@ pub record Writable (d n : ℕ) (users : List ℕ) (v : Drive) : Type 0 where
   pub ready : Ready (v .table .config) v
   pub inside : n < size (v .table)
   pub held : heldBy d (blockAt (v .table) n) ≡ true
-  pub fits : blockAt (v .table) n .written .0 + length users ≤ adusPerBlock (v .table .config) .0
+  pub fits : blockAt (v .table) n .written .0 + length users ≤ capacity (v .table) n .0
 
 -- .. and one that nobody holds, to be opened for a domain.
 pub record Openable (d n : ℕ) (v : Drive) : Type 0 where
@@ -207,7 +207,7 @@ module _ {d n : ℕ} {users : List ℕ} {v : Drive} (x : Writable d n users v) w
   filling = writtenInto d n users v .drive
 
   abbrev filled : Block
-  filled = writtenOn (adus (length users)) (adusPerBlock c) (blockAt (v .table) n)
+  filled = writtenOn (adus (length users)) (blockAdus c n) (blockAt (v .table) n)
 
   held-one : HeldBlock d n v
   held-one = record { low = x .low; inside = x .inside; whole = x .ready .blocks; held = x .held }

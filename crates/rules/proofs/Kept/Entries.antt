@@ -9,12 +9,12 @@ use lib.Dec.{ltb}
 use lib.ListN.{drop, getD, length, length-drop, length-replicate, length-take, replicate, take, getD-replicate}
 use borrow.Author.Tests.{ltb-false, ltb-true}
 use Rattle.geometry.proofs.Laws.Shape.{by-test}
-use Rattle.geometry.specs.Shape.{adusPerBlock, stretchStart}
+use Rattle.geometry.specs.Shape.{stretchStart}
 use Rattle.geometry.specs.declared.address.FlashAddress.{FlashAddress}
 use Rattle.geometry.specs.declared.shape.Config.{Config}
 use Rattle.model.specs.declared.block.Way.{Way}
 use Rattle.rules.specs.Blocks.{allOnes, openedFor, stored, writtenInto}
-use Rattle.rules.specs.Drive.{Drive, blockAt, overwritten}
+use Rattle.rules.specs.Drive.{Drive, blockAdus, blockAt, overwritten}
 use Rattle.rules.specs.Observation.{entriesOf}
 use Rattle.rules.proofs.Store.{entry-before, entry-behind, entry-new, length-overwritten}
 use Rattle.rules.proofs.Writes.{Ready, entry, inside, opened-entry, opened-ready, written-entry, written-own, written-ready}
@@ -40,42 +40,42 @@ get-drop (suc k) i (x ∷ l) = rw (suc-add k i) (get-drop k i l)
 
 module _ (c : Config) where
   -- A block has as many entries as ADUs, each of them the store's.
-  entries-length : (v : Drive) (n : ℕ) → Ready c v → n < c .blocks → length (entriesOf v n) ≡ adusPerBlock c .0
+  entries-length : (v : Drive) (n : ℕ) → Ready c v → n < c .blocks → length (entriesOf v n) ≡ blockAdus c n .0
   unfolding entriesOf
   entries-length v n r l =
       rw (r .shape) (simp (length-take, length-drop) (omega (arith, inside c n l, r .store)))
 
-  entries-get : (v : Drive) (n i : ℕ) → Ready c v → i < adusPerBlock c .0 → getD (entriesOf v n) i 0 ≡ entry c v n i
+  entries-get : (v : Drive) (n i : ℕ) → Ready c v → i < blockAdus c n .0 → getD (entriesOf v n) i 0 ≡ entry c v n i
   unfolding entriesOf
   entries-get v n i r l =
       rw (r .shape)
-      (get-take (adusPerBlock c .0) i (drop (stretchStart c n .0) (v .store)) l ∙ get-drop (stretchStart c n .0) i (v .store))
+      (get-take (blockAdus c n .0) i (drop (stretchStart c n .0) (v .store)) l ∙ get-drop (stretchStart c n .0) i (v .store))
 
   -- Entries that stay.
   pub entries-stay : (v w : Drive) (n : ℕ) → Ready c v → Ready c w → n < c .blocks
-      → ((i : ℕ) → i < adusPerBlock c .0 → entry c w n i ≡ entry c v n i)
+      → ((i : ℕ) → i < blockAdus c n .0 → entry c w n i ≡ entry c v n i)
       → entriesOf w n ≡ entriesOf v n
   entries-stay v w n r s l same =
       same-entries (entriesOf w n) (entriesOf v n) (entries-length w n s l ∙ sym (entries-length v n r l))
       (λ i k.
-      let small : i < adusPerBlock c .0 = omega (arith, k, entries-length w n s l) in
+      let small : i < blockAdus c n .0 = omega (arith, k, entries-length w n s l) in
       entries-get w n i s small ∙ same i small ∙ sym (entries-get v n i r small))
 
   -- Opening sets every entry to all ones.
   pub entries-opened : (d : ℕ) (way : Way) (n : ℕ) (v : Drive) → Ready c v → n < c .blocks
-      → entriesOf (openedFor d way n v) n ≡ replicate (adusPerBlock c .0) allOnes
+      → entriesOf (openedFor d way n v) n ≡ replicate (blockAdus c n .0) allOnes
   entries-opened d way n v r l =
       let w = openedFor d way n v in
       let s = opened-ready c d way n v r l in
-      same-entries (entriesOf w n) (replicate (adusPerBlock c .0) allOnes)
+      same-entries (entriesOf w n) (replicate (blockAdus c n .0) allOnes)
       (entries-length w n s l ∙ sym (length-replicate _ _))
       (λ i k.
-      let small : i < adusPerBlock c .0 = omega (arith, k, entries-length w n s l) in
-      entries-get w n i s small ∙ opened-entry c d way n v r l i small ∙ sym (getD-replicate (adusPerBlock c .0) i allOnes 0 small))
+      let small : i < blockAdus c n .0 = omega (arith, k, entries-length w n s l) in
+      entries-get w n i s small ∙ opened-entry c d way n v r l i small ∙ sym (getD-replicate (blockAdus c n .0) i allOnes 0 small))
 
   -- Writing puts user addresses behind what is written.
   module _ (d n : ℕ) (users : List ℕ) (v : Drive) (r : Ready c v) (l : n < c .blocks)
-      (fits : blockAt (v .table) n .written .0 + length users ≤ adusPerBlock c .0) where
+      (fits : blockAt (v .table) n .written .0 + length users ≤ blockAdus c n .0) where
     abbrev first : ℕ
     first = blockAt (v .table) n .written .0
 
@@ -85,7 +85,7 @@ module _ (c : Config) where
     ready : Ready c after
     ready = written-ready c d n users v r l fits
 
-    new-entry : (i : ℕ) → i < adusPerBlock c .0 → entry c after n i ≡ getD (overwritten first users (entriesOf v n)) i 0
+    new-entry : (i : ℕ) → i < blockAdus c n .0 → entry c after n i ≡ getD (overwritten first users (entriesOf v n)) i 0
     new-entry i k =
         let old : List ℕ = entriesOf v n in
         let room : first ≤ length old = omega (arith, entries-length v n r l, fits) in
@@ -107,12 +107,12 @@ module _ (c : Config) where
         (entries-length after n ready l ∙ sym (entries-length v n r l)
         ∙ sym (length-overwritten first users (entriesOf v n) (omega (arith, entries-length v n r l, fits))))
         (λ i k.
-        let small : i < adusPerBlock c .0 = omega (arith, k, entries-length after n ready l) in
+        let small : i < blockAdus c n .0 = omega (arith, k, entries-length after n ready l) in
         entries-get after n i ready small ∙ new-entry i small)
 
   -- What is stored at an address of a block stands in its entries.
   pub stored-entries : (v : Drive) (a : FlashAddress) (count : ℕ) → Ready c v → a .block < c .blocks
-      → a .offset .0 + count ≤ adusPerBlock c .0
+      → a .offset .0 + count ≤ blockAdus c (a .block) .0
       → stored v a count ≡ take count (drop (a .offset .0) (entriesOf v (a .block)))
   stored-entries v a count r l fits =
       let start : ℕ = stretchStart c (a .block) .0 + a .offset .0 in

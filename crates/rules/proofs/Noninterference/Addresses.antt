@@ -7,12 +7,12 @@ use lib.ListN.{length}
 use Rattle.geometry.proofs.Laws.Address.{fields, fields-word}
 use Rattle.geometry.proofs.Laws.Shape.{Limits}
 use Rattle.geometry.specs.Address.{fieldsOf, wordOf}
-use Rattle.geometry.specs.Shape.{adus, adusPerBlock}
+use Rattle.geometry.specs.Shape.{adus}
 use Rattle.geometry.specs.declared.address.FlashAddress.{FlashAddress}
 use Rattle.geometry.specs.declared.shape.Config.{Config}
 use Rattle.rules.specs.Blocks.{flashAddress, writtenInto}
 use Rattle.rules.specs.Counting.{rowTo}
-use Rattle.rules.specs.Drive.{Drive, blockAt}
+use Rattle.rules.specs.Drive.{Drive, blockAdus, blockAt}
 use Rattle.rules.specs.Observation.{Address, Name, addressOf, nameOf}
 
 -- f 0, .., f (n - 1), of any kind.
@@ -40,7 +40,7 @@ abbrev pub addressesAs : ℕ → Name → ℕ → ℕ → List Address
 addressesAs d name first count = rowOf (λ i. record { domain = d; block = name; offset = adus (first + i) }) count
 
 module _ (a : ℕ) (c : Config) (limits : Limits c) where
-  read-address : (u : Drive) (d n offset : ℕ) → u .table .config ≡ c → n < c .blocks → offset < adusPerBlock c .0
+  read-address : (u : Drive) (d n offset : ℕ) → u .table .config ≡ c → n < c .blocks → offset < blockAdus c n .0
       → addressOf a u (wordOf c (record { domain = d; block = n; offset = adus offset }))
       ≡ record { domain = d; block = nameOf a u n; offset = adus offset }
   read-address u d n offset shape inside small =
@@ -50,7 +50,7 @@ module _ (a : ℕ) (c : Config) (limits : Limits c) where
       ap (λ (g : FlashAddress). record { domain = g .domain; block = nameOf a u (g .block); offset = g .offset }) found
 
   pub read-written : (u v : Drive) (d n : ℕ) (users : List ℕ) → u .table .config ≡ c → v .table .config ≡ c → n < c .blocks
-      → blockAt (v .table) n .written .0 + length users ≤ adusPerBlock c .0
+      → blockAt (v .table) n .written .0 + length users ≤ blockAdus c n .0
       → map (addressOf a u) (writtenInto d n users v .addresses)
       ≡ addressesAs d (nameOf a u n) (blockAt (v .table) n .written .0) (length users)
   unfolding writtenInto

@@ -16,7 +16,7 @@ use Rattle.model.specs.declared.command.Command.the-variants.{Close, Free}
 use Rattle.model.specs.declared.table.Domain.{Domain}
 use Rattle.rules.specs.Blocks.{allOnes, closedAt, nextSerial, openedFor, withLast, writtenInto}
 use Rattle.rules.specs.Calls.{Call, _asking_}
-use Rattle.rules.specs.Drive.{Drive, blockAt, clearDomain, heldBy, size}
+use Rattle.rules.specs.Drive.{Drive, blockAt, capacity, clearDomain, heldBy, size}
 use Rattle.rules.specs.Effects.{effect}
 use Rattle.rules.specs.Observation.{Holding, Name, Observation, ReadBytes, ReadValues, ReadWords, entriesOf, holdingAt, nameOf}
 use Rattle.rules.specs.Questions.{heldBlockQuestions}
@@ -40,13 +40,13 @@ close-holding {d} {n} {v} h =
     (closed-seen (b .state) (b .holder) (b .written) (b .left) (b .erases) (b .serial) (entriesOf v n))
 
 fill-holding : {d n : ℕ} {users : List ℕ} {v : Drive} → Writable d n users v
-    → holdingAt (writtenInto d n users v .drive) n ≡ writtenHolding users (adusPerBlock (v .table .config) .0) (holdingAt v n)
+    → holdingAt (writtenInto d n users v .drive) n ≡ writtenHolding users (capacity (v .table) n .0) (holdingAt v n)
 fill-holding {d} {n} {users} {v} x =
     let b = blockAt (v .table) n in
     ap₂ (λ (y : Block) (es : List ℕ). seenOf y es)
     (written-record x)
     (entries-written (v .table .config) d n users v (x .ready) (x .inside) (x .fits))
-    ∙ (written-seen (b .state) (b .holder) (b .written) (b .left) (b .erases) (b .serial) users (entriesOf v n) (adusPerBlock (v .table .config) .0))
+    ∙ (written-seen (b .state) (b .holder) (b .written) (b .left) (b .erases) (b .serial) users (entriesOf v n) (capacity (v .table) n .0))
 
 abbrev freshHolding : Config → Way → ℕ → Holding
 freshHolding c way serial = record {

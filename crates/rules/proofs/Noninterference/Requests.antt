@@ -59,7 +59,7 @@ requested a (Page d n) e = (n, ap (λ (x : ℕ). Page x n) (eqb-true d a e))
 requested a (Listing d which) e = ap (λ (x : ℕ). Listing x which) (eqb-true d a e)
 requested a (Pulse seconds) e = refl
 
--- What a reference to a block, and one to an address, refers to.
+-- The block, and the address, that is named.
 blockIn : Naming → Name
 blockIn seen.namesNothing = seen.other
 blockIn (seen.namesBlock name) = name
