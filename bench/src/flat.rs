@@ -1,10 +1,11 @@
-//! Tables, commands and answers as plain numbers, to cross a C boundary.
+//! Tables, calls and answers as plain numbers, to cross a C boundary.
 
 #![forbid(unsafe_code)]
 
 use crate::manager::{
     Answer, Block, Command, Config, Domain, Listed, State, Table, Way, BLOCKS, DOMAINS,
 };
+use crate::recorder::Call;
 
 const CONFIG_WORDS: usize = 7;
 const DOMAIN_WORDS: usize = 6;
@@ -13,10 +14,10 @@ const FIRST_BLOCK: usize = CONFIG_WORDS + DOMAIN_WORDS * DOMAINS;
 
 /// The length of a table's row.
 pub const TABLE_WORDS: usize = FIRST_BLOCK + BLOCK_WORDS * BLOCKS;
-/// The length of a command's row.
+/// The length of the row of a command or of a recorder's call.
 pub const COMMAND_WORDS: usize = 6;
-/// The number of kinds of command.
-pub const KINDS: usize = 12;
+/// The number of kinds: twelve of commands, and behind them the recorder's two calls.
+pub const KINDS: usize = 14;
 
 /// The kinds' names by their numbers.
 pub const KIND_NAMES: [&str; KINDS] = [
@@ -32,6 +33,8 @@ pub const KIND_NAMES: [&str; KINDS] = [
     "Page",
     "List",
     "Pulse",
+    "Append",
+    "Latest",
 ];
 
 pub fn to_row(table: &Table) -> Vec<u64> {
@@ -168,8 +171,16 @@ fn narrow<T: TryFrom<u64>>(word: u64) -> T {
 }
 
 /// Kind and arguments.
-pub fn command_words(command: &Command) -> [u64; COMMAND_WORDS] {
-    match *command {
+pub fn call_words(call: &Call) -> [u64; COMMAND_WORDS] {
+    match *call {
+        Call::Command(command) => command_words(command),
+        Call::Append { domain, sample } => [12, domain, sample, 0, 0, 0],
+        Call::Latest { domain, count } => [13, domain, count, 0, 0, 0],
+    }
+}
+
+fn command_words(command: Command) -> [u64; COMMAND_WORDS] {
+    match command {
         Command::Create { domain, guarantee, quota, placements, limit } => {
             [0, domain, guarantee, quota, placements, limit]
         }
@@ -195,8 +206,17 @@ pub fn command_words(command: &Command) -> [u64; COMMAND_WORDS] {
     }
 }
 
-/// The command of a row that `command_words` may have given; none of any other.
-pub fn command_of(words: &[u64; COMMAND_WORDS]) -> Option<Command> {
+/// The call of a row that `call_words` may have given; none of any other.
+pub fn call_of(words: &[u64; COMMAND_WORDS]) -> Option<Call> {
+    let [kind, a, b, ..] = *words;
+    match kind {
+        12 => Some(Call::Append { domain: a, sample: b }),
+        13 => Some(Call::Latest { domain: a, count: b }),
+        _ => command_of(words).map(Call::Command),
+    }
+}
+
+fn command_of(words: &[u64; COMMAND_WORDS]) -> Option<Command> {
     let [kind, a, b, c, d, e] = *words;
     Some(match kind {
         0 => Command::Create { domain: a, guarantee: b, quota: c, placements: d, limit: e },
@@ -299,20 +319,22 @@ mod tests {
     }
 
     #[test]
-    fn commands_come_back() {
+    fn calls_come_back() {
         for kind in 0..KINDS as u64 {
             let second = if kind == 10 { 1 } else { 12 };
-            let command = command_of(&[kind, 11, second, 13, 14, 15]).unwrap();
-            let words = command_words(&command);
+            let call = call_of(&[kind, 11, second, 13, 14, 15]).unwrap();
+            let words = call_words(&call);
             assert_eq!(words[0], kind);
-            assert_eq!(command_of(&words), Some(command));
+            assert_eq!(call_of(&words), Some(call));
         }
-        assert_eq!(command_of(&[12, 0, 0, 0, 0, 0]), None);
-        assert_eq!(command_of(&[10, 1, 2, 0, 0, 0]), None);
+        assert_eq!(call_of(&[KINDS as u64, 0, 0, 0, 0, 0]), None);
+        assert_eq!(call_of(&[10, 1, 2, 0, 0, 0]), None);
         let read = Command::Read { domain: 1, address: 2, count: 3, expected: 4 };
-        assert_eq!(command_words(&read), [8, 1, 2, 3, 4, 0]);
+        assert_eq!(call_words(&read.into()), [8, 1, 2, 3, 4, 0]);
         let write = Command::WriteByPlacement { domain: 1, placement: 2, start: 3, count: 4 };
-        assert_eq!(command_words(&write), [6, 1, 2, 3, 4, 0]);
+        assert_eq!(call_words(&write.into()), [6, 1, 2, 3, 4, 0]);
+        assert_eq!(call_words(&Call::Append { domain: 1, sample: 2 }), [12, 1, 2, 0, 0, 0]);
+        assert_eq!(call_words(&Call::Latest { domain: 1, count: 2 }), [13, 1, 2, 0, 0, 0]);
     }
 
     #[test]

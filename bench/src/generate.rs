@@ -1,4 +1,4 @@
-//! Random configurations, commands and tables, sound ones and others.
+//! Random configurations, commands, calls and tables, sound ones and others.
 
 #![forbid(unsafe_code)]
 
@@ -6,6 +6,7 @@ use crate::manager::{
     Block, Command, Config, Domain, Listed, State, Table, Way, ALL_ONES, ANY_BLOCK, BLOCKS, DOMAINS,
 };
 use crate::random::Random;
+use crate::recorder::Call;
 
 const LAST_LBA: u64 = (1 << 40) - 1;
 const HUGE: [u64; 6] = [u64::MAX, u64::MAX - 1, 1 << 63, 1 << 32, (1 << 32) + 1, 1 << 16];
@@ -137,6 +138,22 @@ pub fn command(random: &mut Random, table: &Table, store: &[u64]) -> Command {
     }
 }
 
+/// A command, or a call of the recorder's, for this table and store. Some commands are there to
+/// give domains the shape that the calls ask for, and to use up their blocks.
+pub fn call(random: &mut Random, table: &Table, store: &[u64]) -> Call {
+    let drive = View { table, store };
+    let shaped = drive.recorder(random);
+    let domain = shaped.filter(|_| random.chance(88)).unwrap_or_else(|| drive.domain(random));
+    match random.below(100) {
+        0..=36 if shaped.is_none() && random.chance(70) => drive.make_recorder(random).into(),
+        0..=24 => Call::Append { domain, sample: drive.start(random, 1) },
+        25..=36 => drive.latest(random, domain),
+        37 => drive.make_recorder(random).into(),
+        38..=43 => drive.use_up(random, domain).into(),
+        _ => command(random, table, store).into(),
+    }
+}
+
 fn is_held(block: &Block) -> bool {
     block.state != State::Free
 }
@@ -173,6 +190,24 @@ impl View<'_> {
         } else {
             128
         }
+    }
+
+    fn planes_in_block(&self) -> u64 {
+        let config = &self.table.config;
+        if config.within_limits() {
+            config.planes_in_block()
+        } else {
+            128
+        }
+    }
+
+    fn held_by(&self, domain: u64) -> impl Iterator<Item = &Block> {
+        self.blocks().iter().filter(move |block| u64::from(block.holder) == domain)
+    }
+
+    /// The written ADUs of a domain.
+    fn kept(&self, domain: u64) -> u64 {
+        self.held_by(domain).fold(0, |sum, block| sum.saturating_add(block.written))
     }
 
     fn domain(&self, random: &mut Random) -> u64 {
@@ -263,6 +298,60 @@ impl View<'_> {
         }
     }
 
+    /// A domain of the recorder's shape, if there is one.
+    fn recorder(&self, random: &mut Random) -> Option<u64> {
+        let shaped = |&index: &usize| {
+            let Domain { reserved, quota, placements, .. } = self.table.domains[index];
+            placements == 1 && reserved == quota && quota >= 2
+        };
+        turned(random, DOMAINS as u64).find(shaped).map(|index| index as u64 + 1)
+    }
+
+    fn latest(&self, random: &mut Random, domain: u64) -> Call {
+        let kept = self.kept(domain);
+        let count = self.count(random, kept);
+        let count = if kept > 0 && random.chance(60) { count.min(kept) } else { count };
+        Call::Latest { domain, count }
+    }
+
+    /// Gives a domain with one placement the recorder's shape, or nearly so, or creates one.
+    fn make_recorder(&self, random: &mut Random) -> Command {
+        let in_block = self.planes_in_block();
+        let blocks = random.pick(&[1, 2, 2, 2, 3, 4, 6]).min(self.table.config.blocks.max(1));
+        let single = |&index: &usize| self.table.domains[index].placements == 1;
+        let found = turned(random, DOMAINS as u64).find(single).filter(|_| random.chance(60));
+        if let Some(index) = found {
+            let domain = index as u64 + 1;
+            let guarantee = in_block * (self.held_by(domain).count() as u64).max(blocks);
+            return Command::ChangeCapacity { domain, guarantee, quota: guarantee };
+        }
+        let guarantee = in_block * blocks - random.pick(&[0, 0, 1]);
+        Command::Create {
+            domain: self.new_domain(random),
+            guarantee,
+            quota: random.pick(&[0, 0, guarantee, guarantee, guarantee + in_block]),
+            placements: random.pick(&[1, 1, 1, 1, 1, 2]),
+            limit: random.below(5),
+        }
+    }
+
+    /// Ends the open block of a domain's first placement, or opens one by Erase, so that soon a
+    /// block must be freed for the next sample.
+    fn use_up(&self, random: &mut Random, domain: u64) -> Command {
+        let writing = State::Open(Way::Placement(0));
+        let is_its = |block: &Block| u64::from(block.holder) == domain && block.state == writing;
+        let Some(block) = self.find(random, is_its) else {
+            return Command::Erase { domain, block: ANY_BLOCK };
+        };
+        if random.chance(30) {
+            return Command::Close { domain, block };
+        }
+        let room = self.capacity().saturating_sub(self.blocks()[block as usize].written);
+        let count = room.clamp(1, 256);
+        let start = self.start(random, count);
+        Command::WriteByPlacement { domain, placement: 0, start, count }
+    }
+
     fn erase(&self, random: &mut Random) -> Command {
         let domain = self.domain(random);
         match random.below(10) {
@@ -320,10 +409,8 @@ impl View<'_> {
             None => 1,
         };
         let placement = wild(random, &[ids, 16, 255, 256], |random| random.below(ids));
-        let open = self.blocks().iter().find(|block| {
-            u64::from(block.holder) == domain
-                && block.state == State::Open(Way::Placement(placement as u8))
-        });
+        let writing = State::Open(Way::Placement(placement as u8));
+        let open = self.held_by(domain).find(|block| block.state == writing);
         let written = open.map_or(0, |block| block.written);
         let room = self.capacity().saturating_sub(written);
         // With room for one block, for the next, or for the second next.
@@ -490,6 +577,47 @@ fn plant_tight_limits(random: &mut Random, table: &mut Table) {
             domain.reserved += spare;
             domain.quota = domain.quota.max(domain.reserved);
             spare = 0;
+        }
+    }
+}
+
+/// Gives a domain of a sound table the recorder's shape, if there is room for one; the table stays
+/// sound. Mostly the domain then holds its quota, so that the next block to open needs one freed.
+pub fn plant_recorder(random: &mut Random, table: &mut Table) {
+    let blocks = table.config.blocks as u32;
+    for index in turned(random, DOMAINS as u64) {
+        let count = |index| held(table, index).count() as u32;
+        let covered = |index: usize| table.domains[index].reserved.max(count(index));
+        let others = (0..DOMAINS).filter(|&other| other != index);
+        let most = blocks - others.map(covered).sum::<u32>();
+        let least = count(index).max(2);
+        let domain = &mut table.domains[index];
+        if !domain.exists || most < least {
+            continue;
+        }
+        let any = random.between(least.into(), most.into()) as u32;
+        let quota = random.pick(&[least, least, any]);
+        (domain.reserved, domain.quota, domain.placements) = (quota, quota, 1);
+        plant_one_placement(random, table, index);
+        return;
+    }
+}
+
+/// All blocks of a domain that have a placement get the first, and one of them at most stays open.
+fn plant_one_placement(random: &mut Random, table: &mut Table, index: usize) {
+    let mut may_stay = random.chance(40);
+    let its = present(table).iter_mut().filter(|block| usize::from(block.holder) == index + 1);
+    for block in its {
+        match block.state {
+            State::Open(Way::Placement(_)) if may_stay => {
+                block.state = State::Open(Way::Placement(0));
+                may_stay = false;
+            }
+            State::Open(Way::Placement(_)) => {
+                (block.state, block.left) = (State::Closed(Way::Placement(0)), 0);
+            }
+            State::Closed(Way::Placement(_)) => block.state = State::Closed(Way::Placement(0)),
+            _ => {}
         }
     }
 }

@@ -1,4 +1,5 @@
-//! A second reading of document 01 in Rust, and what is needed to hold the proved library against it.
+//! A second reading of document 01 and of Wish 1 of document 02 in Rust, and what is needed to hold
+//! the proved library against it.
 
 pub mod flat;
 pub mod generate;
@@ -6,3 +7,4 @@ pub mod manager;
 pub mod random;
 #[cfg(trial)]
 pub mod rattle;
+pub mod recorder;

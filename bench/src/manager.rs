@@ -136,7 +136,7 @@ pub enum Answer {
 /// 01's questions by number.
 #[derive(Clone, Copy, PartialEq, Eq, Debug)]
 #[repr(u8)]
-enum Question {
+pub(crate) enum Question {
     Limits = 1,
     Sound = 2,
     Store = 3,
@@ -155,9 +155,9 @@ enum Question {
     Match = 16,
 }
 
-type Served = Result<Answer, Question>;
+pub(crate) type Served = Result<Answer, Question>;
 
-fn ask(yes: bool, question: Question) -> Result<(), Question> {
+pub(crate) fn ask(yes: bool, question: Question) -> Result<(), Question> {
     if yes {
         Ok(())
     } else {
@@ -165,7 +165,7 @@ fn ask(yes: bool, question: Question) -> Result<(), Question> {
     }
 }
 
-fn answer(served: Served) -> Answer {
+pub(crate) fn answer(served: Served) -> Answer {
     served.unwrap_or_else(|question| Answer::Refused(question as u8))
 }
 
@@ -247,7 +247,7 @@ impl State {
         matches!(self, State::Open(_))
     }
 
-    fn is_closed(self) -> bool {
+    pub(crate) fn is_closed(self) -> bool {
         matches!(self, State::Closed(_))
     }
 
@@ -327,7 +327,7 @@ impl Block {
     }
 
     /// Clears all of the record but the P/E count.
-    fn free(&mut self) {
+    pub(crate) fn free(&mut self) {
         *self = Block { erases: self.erases, ..Block::default() };
     }
 
@@ -420,18 +420,26 @@ impl<const N: usize> Serials<N> {
 
 /// Where a Write by placement writes.
 #[derive(Clone, Copy, PartialEq, Eq)]
-struct Place {
-    domain: u64,
-    placement: u64,
+pub(crate) struct Place {
+    pub(crate) domain: u64,
+    pub(crate) placement: u64,
 }
 
 /// What one pass over a sound table finds.
-struct Census {
+pub(crate) struct Census {
     tallies: [Tally; DOMAINS],
     /// Over all domains, the sum of the larger of reserved blocks and held blocks.
     covered: u32,
     /// The open block of the place that is asked for.
     open_block: Option<usize>,
+}
+
+impl Census {
+    /// One block less is held by a domain that holds no more than it has reserved, so that the
+    /// covered sum stays; the block was not open.
+    pub(crate) fn closed_one_is_freed(&mut self, index: usize) {
+        self.tallies[index].0 -= Tally::HELD;
+    }
 }
 
 impl Table {
@@ -500,7 +508,7 @@ impl Table {
     }
 
     /// None if the table is not sound.
-    fn census(&self, place: Option<Place>) -> Option<Census> {
+    pub(crate) fn census(&self, place: Option<Place>) -> Option<Census> {
         if !self.config.within_limits() {
             return None;
         }
@@ -552,7 +560,7 @@ impl Table {
     }
 
     /// The records of the blocks that the drive has.
-    fn present(&self) -> &[Block] {
+    pub(crate) fn present(&self) -> &[Block] {
         &self.blocks[..self.config.blocks as usize]
     }
 
@@ -563,12 +571,12 @@ impl Table {
 
 // The questions that several commands put.
 impl Table {
-    fn ask_store(&self, store: &[u64]) -> Result<(), Question> {
+    pub(crate) fn ask_store(&self, store: &[u64]) -> Result<(), Question> {
         ask(store.len() as u64 == self.config.store_entries(), Question::Store)
     }
 
     /// Questions 4 and 5; the index of the domain's record.
-    fn ask_domain(&self, domain: u64) -> Result<usize, Question> {
+    pub(crate) fn ask_domain(&self, domain: u64) -> Result<usize, Question> {
         let index = ask_domain_id(domain)?;
         ask(self.domains[index].exists, Question::Exists)?;
         Ok(index)
@@ -622,12 +630,12 @@ fn ask_domain_id(domain: u64) -> Result<usize, Question> {
     Ok(domain as usize - 1)
 }
 
-fn ask_count(count: u64) -> Result<usize, Question> {
+pub(crate) fn ask_count(count: u64) -> Result<usize, Question> {
     ask((1..=MOST_ADUS_IN_TRANSFER).contains(&count), Question::Range)?;
     Ok(count as usize)
 }
 
-fn ask_words(words: &mut [u64], count: usize) -> Result<&mut [u64], Question> {
+pub(crate) fn ask_words(words: &mut [u64], count: usize) -> Result<&mut [u64], Question> {
     words.get_mut(..count).ok_or(Question::Output)
 }
 
@@ -800,7 +808,7 @@ impl Table {
 // Transfers.
 impl Table {
     #[allow(clippy::too_many_arguments)]
-    fn write_by_placement(
+    pub(crate) fn write_by_placement(
         &mut self,
         census: &Census,
         domain: u64,

@@ -1,11 +1,12 @@
 //! The sound tables of document 01 by a plain definition, word for word, against the one pass of
-//! the manager; and commands on tables of any content, none of which may panic.
+//! the manager; and commands and calls on tables of any content, none of which may panic.
 
 mod common;
 
 use bench::generate;
 use bench::manager::{Answer, Block, Config, Domain, State, Table, Way};
 use bench::random::Random;
+use bench::recorder;
 use common::*;
 
 fn holds(table: &Table, domain: usize) -> Vec<&Block> {
@@ -220,15 +221,17 @@ fn the_one_pass_agrees_with_the_plain_definition() {
     for _ in 0..400 {
         let mut drive = Drive::start(generate::config(&mut random));
         for _ in 0..60 {
-            let command = generate::command(&mut random, &drive.table, &drive.store);
+            let call = generate::call(&mut random, &drive.table, &drive.store);
             drive.words.resize(256, 0);
             drive.bytes.resize(2_056, 0);
-            let _ =
-                drive.table.serve(command, &mut drive.store, &mut drive.words, &mut drive.bytes);
-            if random.chance(3) {
-                generate::plant(&mut random, &mut drive.table);
+            let Drive { table, store, words, bytes } = &mut drive;
+            let _ = recorder::serve(table, call, store, words, bytes);
+            match random.below(100) {
+                0..=2 => generate::plant(&mut random, &mut drive.table),
+                3..=5 => generate::plant_recorder(&mut random, &mut drive.table),
+                _ => {}
             }
-            assert!(drive.table.is_sound() && plainly_sound(&drive.table), "{command:?}");
+            assert!(drive.table.is_sound() && plainly_sound(&drive.table), "{call:?}");
             for _ in 0..3 {
                 let mut damaged = drive.table.clone();
                 generate::damage(&mut random, &mut damaged);
@@ -252,7 +255,7 @@ fn no_input_panics_and_no_refusal_changes_anything() {
             if hostile {
                 generate::damage(&mut random, &mut drive.table);
             }
-            let command = generate::command(&mut random, &drive.table, &drive.store);
+            let call = generate::call(&mut random, &drive.table, &drive.store);
             drive.words.resize(random.pick(&[0, 1, 255, 256, 300]), 0);
             drive.bytes.resize(random.pick(&[0, 8, 255, 256, 2_056]), 0);
             drive.store.resize(
@@ -260,7 +263,7 @@ fn no_input_panics_and_no_refusal_changes_anything() {
                 0,
             );
             let sound = drive.table.is_sound();
-            let answer = drive.serve(command);
+            let answer = drive.serve(call);
             assert_eq!(answer == Answer::Refused(2), !sound);
             drive.store.resize(length, 0);
             if hostile {

@@ -1,11 +1,13 @@
-//! Runs a script of commands and holds the answers against the wanted ones.
+//! Runs scripts of commands and holds the answers against the wanted ones.
 //!
-//! They are those that the program `drive` is run on: its standard input and what it is to print. The
-//! answers given are left as answers.txt in the tests' temporary folder.
+//! One is that which the program `drive` is run on, its standard input and what it is to print; the
+//! other has the recorder's calls among the commands. The answers given are left in the tests'
+//! temporary folder.
 
 use bench::manager::{
     make_address, take_apart, Answer, Command, Config, Elements, Listed, Table, ANY_BLOCK,
 };
+use bench::recorder::{self, Call};
 use std::{fs, path::Path};
 
 const FULL_WORDS: usize = 4096;
@@ -40,7 +42,7 @@ impl Drive {
             ["lend", what, length] => self.lend(what, length),
             ["make", ref numbers @ ..] => self.make(numbers),
             ["take", word] => self.take(number(word)?),
-            _ => self.serve(command(&words)?),
+            _ => self.serve(call(&words)?),
         }
     }
 
@@ -82,7 +84,7 @@ impl Drive {
         Some(told(answer, || hex(&bytes[..56])))
     }
 
-    fn serve(&mut self, command: Command) -> Option<String> {
+    fn serve(&mut self, call: Call) -> Option<String> {
         let full = self.store.len();
         let length = self.store_length.unwrap_or(full);
         // A store of another length is another store; it is lent in place of the drive's.
@@ -90,25 +92,21 @@ impl Drive {
         let store = if length == full { &mut self.store } else { &mut other };
         let mut words = vec![u64::from(JUNK); self.words_length.unwrap_or(FULL_WORDS)];
         let mut bytes = vec![JUNK; self.bytes_length.unwrap_or(FULL_BYTES)];
-        let answer = self.table.serve(command, store, &mut words, &mut bytes);
-        let filled = || match command {
-            Command::WriteByPlacement { count, .. }
-            | Command::WriteByBlock { count, .. }
-            | Command::Read { count, .. } => {
-                let count = count as usize;
-                assert!(words[count..].iter().all(|&word| word == u64::from(JUNK)));
-                words[..count]
-                    .iter()
-                    .map(|word| format!("{word:016x}"))
-                    .collect::<Vec<_>>()
-                    .join(" ")
-            }
-            Command::Page { .. } => {
-                assert!(bytes[256..].iter().all(|&byte| byte == JUNK));
-                hex(&bytes[..256])
-            }
-            Command::List { .. } => descriptors(&bytes),
-            _ => String::new(),
+        let answer = recorder::serve(&mut self.table, call, store, &mut words, &mut bytes);
+        let filled = || match call {
+            Call::Command(command) => match command {
+                Command::WriteByPlacement { count, .. }
+                | Command::WriteByBlock { count, .. }
+                | Command::Read { count, .. } => addresses(&words, count),
+                Command::Page { .. } => {
+                    assert!(bytes[256..].iter().all(|&byte| byte == JUNK));
+                    hex(&bytes[..256])
+                }
+                Command::List { .. } => descriptors(&bytes),
+                _ => String::new(),
+            },
+            Call::Append { .. } => addresses(&words, 1),
+            Call::Latest { count, .. } => addresses(&words, count),
         };
         Some(told(answer, filled))
     }
@@ -128,6 +126,18 @@ fn number(word: &str) -> Option<u64> {
 fn all<const N: usize>(words: &[&str]) -> Option<[u64; N]> {
     let numbers: Option<Vec<u64>> = words.iter().map(|word| number(word)).collect();
     numbers?.try_into().ok()
+}
+
+fn call(words: &[&str]) -> Option<Call> {
+    Some(match *words {
+        ["append", domain, sample] => {
+            Call::Append { domain: number(domain)?, sample: number(sample)? }
+        }
+        ["latest", domain, count] => {
+            Call::Latest { domain: number(domain)?, count: number(count)? }
+        }
+        _ => Call::Command(command(words)?),
+    })
 }
 
 fn command(words: &[&str]) -> Option<Command> {
@@ -183,6 +193,13 @@ fn hex(bytes: &[u8]) -> String {
     bytes.iter().map(|byte| format!("{byte:02x}")).collect()
 }
 
+/// The first words, which are all that was filled.
+fn addresses(words: &[u64], count: u64) -> String {
+    let (filled, beyond) = words.split_at(count as usize);
+    assert!(beyond.iter().all(|&word| word == u64::from(JUNK)));
+    filled.iter().map(|word| format!("{word:016x}")).collect::<Vec<_>>().join(" ")
+}
+
 /// The descriptors up to the end mark.
 fn descriptors(bytes: &[u8]) -> String {
     let end = bytes.chunks(8).position(|one| one[..4] == [0xFF; 4]).expect("an end mark");
@@ -204,18 +221,27 @@ fn agree(command: &str, want: &str, got: &str) -> bool {
 
 #[test]
 fn vectors_are_answered_as_wanted() {
-    let folder = Path::new(env!("CARGO_MANIFEST_DIR")).join("../crates/drive");
-    let read = |name: &str| fs::read_to_string(folder.join(name)).expect(name);
-    let script = read("stdin");
+    compare("crates/drive/stdin", "crates/drive/stdout", "answers.txt");
+}
+
+#[test]
+fn vectors_of_the_recorder_are_answered_as_wanted() {
+    compare("tests/recorder.script", "tests/recorder.answers", "recorder.answers");
+}
+
+/// Answers a script, keeps what was given under a name, and holds it against the wanted answers.
+fn compare(script: &str, wanted: &str, kept: &str) {
+    let project = Path::new(env!("CARGO_MANIFEST_DIR")).join("..");
+    let read = |name: &str| fs::read_to_string(project.join(name)).expect(name);
+    let (script, wanted) = (read(script), read(wanted));
     let uncommented = script.lines().map(|line| line.split('#').next().unwrap_or("").trim());
     let commands: Vec<&str> = uncommented.filter(|line| !line.is_empty()).collect();
-    let wanted = read("stdout");
     let mut drive = Drive::new();
     let given: Vec<String> = commands
         .iter()
         .map(|line| drive.answer(line).unwrap_or_else(|| panic!("{line}")))
         .collect();
-    let kept = Path::new(env!("CARGO_TARGET_TMPDIR")).join("answers.txt");
+    let kept = Path::new(env!("CARGO_TARGET_TMPDIR")).join(kept);
     fs::write(&kept, given.join("\n") + "\n").expect("the answers can be kept");
     assert_eq!(wanted.lines().count(), commands.len());
     let mut differing = 0;

@@ -3,19 +3,21 @@
 //!
 //! compare [COMMANDS] [SEED]
 //!
-//! Exit status: 0 if all agree, 1 at the first difference or if something was never reached, 2 if
-//! the library is missing or an argument is no number.
+//! The recorder's calls are among the commands. Exit status: 0 if all agree, 1 at the first
+//! difference or if something was never reached, 2 if the library is missing or an argument is no
+//! number.
 
 #![forbid(unsafe_code)]
 #![cfg_attr(not(trial), allow(dead_code))]
 
 use bench::flat::{
-    answer_number, command_words, fill_row, from_row, word_name, COMMAND_WORDS, KINDS, KIND_NAMES,
+    answer_number, call_words, fill_row, from_row, word_name, COMMAND_WORDS, KINDS, KIND_NAMES,
     TABLE_WORDS,
 };
 use bench::generate;
-use bench::manager::{Command, Config, Domain, Listed, State, Table, BLOCKS};
+use bench::manager::{Answer, Block, Command, Config, Domain, Listed, State, Table, Way, BLOCKS};
 use bench::random::Random;
+use bench::recorder::{self, Call};
 use std::fmt::Write;
 use std::process::ExitCode;
 
@@ -121,12 +123,24 @@ struct Counts {
     planted: u64,
     /// Drives that were started, by their number of blocks.
     drives: [u64; SIZES.len()],
+    /// Successful calls of the recorder, by what they met.
+    met: [u64; MEETINGS.len()],
 }
 
 /// The classes of drives in the report, each up to so many blocks.
 const SIZES: [u64; 5] = [1, 8, 32, 128, 256];
 
 const START: usize = KINDS;
+
+/// What a successful call of the recorder can meet.
+const MEETINGS: [&str; 6] = [
+    "Append that freed a block",
+    "Append that freed one block and opened another",
+    "Latest from several blocks",
+    "Latest from blocks not in the order of their numbers",
+    "Latest from a Closed block that is not full",
+    "Latest from a block opened by Erase",
+];
 
 /// The refusals that a kind can meet.
 fn reachable(kind: usize) -> &'static [usize] {
@@ -141,6 +155,9 @@ fn reachable(kind: usize) -> &'static [usize] {
         9 => &[2, 4, 5, 6, 7, 9],
         10 => &[2, 4, 5, 7],
         11 => &[2, 6],
+        // One user address never gets 8, and what is within a reserved quota never 14.
+        12 => &[2, 3, 4, 5, 6, 7, 11, 12, 13],
+        13 => &[2, 3, 4, 5, 6, 7, 15],
         _ => &[1],
     }
 }
@@ -156,6 +173,12 @@ impl Counts {
         if kind != START {
             self.commands += 1;
             self.unsound += u64::from(class == 2);
+        }
+    }
+
+    fn note(&mut self, met: [bool; MEETINGS.len()]) {
+        for (count, met) in self.met.iter_mut().zip(met) {
+            *count += u64::from(met);
         }
     }
 
@@ -188,6 +211,9 @@ impl Counts {
             let _ = write!(text, " S up to {most}: {count};");
         }
         let _ = writeln!(text, " refused: {}", self.answers[START][1]);
+        for (name, count) in MEETINGS.iter().zip(self.met) {
+            let _ = writeln!(text, "{name}: {count}");
+        }
         text
     }
 
@@ -208,8 +234,55 @@ impl Counts {
                 }
             }
         }
+        for (name, count) in MEETINGS.iter().zip(self.met) {
+            if count == 0 {
+                missing.push((*name).into());
+            }
+        }
         missing
     }
+}
+
+/// What a successful call met, by the places in `MEETINGS`, on the tables before and after it.
+fn met(call: &Call, before: &Table, after: &Table) -> [bool; MEETINGS.len()] {
+    match *call {
+        Call::Command(_) => [false; MEETINGS.len()],
+        Call::Append { domain, .. } => {
+            let is_freed = |(before, after): &(&Block, &Block)| {
+                u64::from(before.holder) == domain && before.serial != after.serial
+            };
+            let freed = before.blocks.iter().zip(&after.blocks).find(is_freed);
+            let is_free = freed.is_some_and(|(_, after)| after.state == State::Free);
+            [freed.is_some(), is_free, false, false, false, false]
+        }
+        Call::Latest { domain, count } => {
+            let sources = sources(before, domain, count);
+            let capacity = before.config.adus_in_block();
+            let turned = sources.windows(2).any(|pair| pair[0].0 < pair[1].0);
+            let partly = sources.iter().any(|(_, block)| {
+                matches!(block.state, State::Closed(_)) && block.written < capacity
+            });
+            let erased = sources.iter().any(|(_, block)| {
+                matches!(block.state, State::Open(Way::Erase) | State::Closed(Way::Erase))
+            });
+            [false, false, sources.len() > 1, turned, partly, erased]
+        }
+    }
+}
+
+/// The blocks that the last so many ADUs of a domain are in, the newest first.
+fn sources(table: &Table, domain: u64, count: u64) -> Vec<(usize, &Block)> {
+    let present = table.blocks[..table.config.blocks as usize].iter().enumerate();
+    let mut sources: Vec<(usize, &Block)> =
+        present.filter(|(_, block)| u64::from(block.holder) == domain).collect();
+    sources.sort_by_key(|(_, block)| std::cmp::Reverse(block.serial));
+    let mut left = count;
+    sources.retain(|(_, block)| {
+        let taken = left.min(block.written);
+        left -= taken;
+        taken > 0
+    });
+    sources
 }
 
 /// What both sides are lent.
@@ -278,8 +351,9 @@ impl<O: Other> Trial<O> {
             let end = commands.min(self.counts.commands + length);
             while self.counts.commands < end {
                 match self.random.below(100) {
-                    0 if !wrong => self.plant(),
+                    0 if !wrong => self.plant(generate::plant),
                     1..=9 => self.serve_damaged()?,
+                    10 | 11 if !wrong => self.plant(generate::plant_recorder),
                     _ => self.serve()?,
                 }
             }
@@ -311,8 +385,8 @@ impl<O: Other> Trial<O> {
     }
 
     /// Goes on with a table that is sound but extreme.
-    fn plant(&mut self) {
-        generate::plant(&mut self.random, &mut self.table);
+    fn plant(&mut self, plant: fn(&mut Random, &mut Table)) {
+        plant(&mut self.random, &mut self.table);
         assert!(self.table.is_sound(), "a planted table is sound");
         fill_row(&self.table, &mut self.row);
         self.counts.planted += 1;
@@ -334,17 +408,18 @@ impl<O: Other> Trial<O> {
 
     /// A command on both sides.
     fn serve(&mut self) -> Result<(), String> {
-        let command = generate::command(&mut self.random, &self.table, &self.mine.store);
-        let lent = self.lend(&command);
+        let call = generate::call(&mut self.random, &self.table, &self.mine.store);
+        let lent = self.lend(&call);
         self.random.fill_words(&mut self.mine.words);
         self.random.fill_bytes(&mut self.mine.bytes);
         self.others.words.copy_from_slice(&self.mine.words);
         self.others.bytes.copy_from_slice(&self.mine.bytes);
         self.before.copy_from_slice(&self.row);
-        let words = command_words(&command);
+        let words = call_words(&call);
         let Buffers { store, words: filled, bytes } = &mut self.mine;
-        let answer = self.table.serve(
-            command,
+        let answer = recorder::serve(
+            &mut self.table,
+            call,
             &mut store[..lent.store],
             &mut filled[..lent.words],
             &mut bytes[..lent.bytes],
@@ -358,6 +433,9 @@ impl<O: Other> Trial<O> {
             &mut bytes[..lent.bytes],
         );
         self.counts.count(words[0] as usize, answer_number(answer));
+        if answer == Answer::Done && !matches!(call, Call::Command(_)) {
+            self.counts.note(met(&call, &from_row(&self.before), &self.table));
+        }
         fill_row(&self.table, &mut self.wanted);
         let agree = number == answer_number(answer)
             && self.row == self.wanted
@@ -367,12 +445,12 @@ impl<O: Other> Trial<O> {
         if agree {
             Ok(())
         } else {
-            Err(self.difference(&command, lent, answer_number(answer), number))
+            Err(self.difference(&call, lent, answer_number(answer), number))
         }
     }
 
     /// Mostly buffers of the right length; sometimes shorter or longer ones, or none.
-    fn lend(&mut self, command: &Command) -> Lent {
+    fn lend(&mut self, call: &Call) -> Lent {
         let random = &mut self.random;
         let all = self.mine.store.len();
         let config = &self.table.config;
@@ -384,7 +462,7 @@ impl<O: Other> Trial<O> {
             3 => random.between(0, all as u64) as usize,
             _ => right,
         };
-        let (words, bytes) = self.filled(command);
+        let (words, bytes) = self.filled(call);
         Lent {
             store: store.min(all),
             words: output_length(&mut self.random, words, MOST_WORDS),
@@ -392,9 +470,14 @@ impl<O: Other> Trial<O> {
         }
     }
 
-    /// How many words and bytes the command's success fills.
-    fn filled(&self, command: &Command) -> (usize, usize) {
-        match *command {
+    /// How many words and bytes the call's success fills.
+    fn filled(&self, call: &Call) -> (usize, usize) {
+        let command = match *call {
+            Call::Command(command) => command,
+            Call::Append { .. } => return (1, 0),
+            Call::Latest { count, .. } => return (count.min(256) as usize, 0),
+        };
+        match command {
             Command::WriteByPlacement { count, .. }
             | Command::WriteByBlock { count, .. }
             | Command::Read { count, .. } => (count.min(256) as usize, 0),
@@ -413,12 +496,12 @@ impl<O: Other> Trial<O> {
         }
     }
 
-    fn difference(&self, command: &Command, lent: Lent, mine: u64, number: u64) -> String {
+    fn difference(&self, call: &Call, lent: Lent, mine: u64, number: u64) -> String {
         let mut text = format!(
-            "difference at command {}, seed {}: {command:?}\n",
+            "difference at command {}, seed {}: {call:?}\n",
             self.counts.commands, self.seed
         );
-        let _ = writeln!(text, "as words {:?}; {lent:?}", command_words(command));
+        let _ = writeln!(text, "as words {:?}; {lent:?}", call_words(call));
         let _ = writeln!(text, "Rust answers {mine}, the other {number}");
         list_differing(&mut text, &self.wanted, &self.row, word_name);
         let store = |place| format!("store {place}");
@@ -480,15 +563,15 @@ fn show_table(text: &mut String, table: &Table) {
 #[cfg(test)]
 mod tests {
     use super::*;
-    use bench::flat::command_of;
-    use bench::manager::{Answer, ALL_ONES};
+    use bench::flat::call_of;
+    use bench::manager::ALL_ONES;
 
     /// The manager in Rust as the other side, with something done to what it leaves.
     struct Impostor<F>(F);
 
     /// What an impostor can change after a command.
     struct Left<'a> {
-        command: Command,
+        call: Call,
         before: &'a Table,
         answer: &'a mut Answer,
         table: &'a mut Table,
@@ -512,12 +595,12 @@ mod tests {
             words: &mut [u64],
             bytes: &mut [u8],
         ) -> u64 {
-            let command = command_of(command).expect("a command");
+            let call = call_of(command).expect("a command");
             let before = from_row(row);
             let mut table = before.clone();
-            let mut answer = table.serve(command, store, words, bytes);
+            let mut answer = recorder::serve(&mut table, call, store, words, bytes);
             (self.0)(Left {
-                command,
+                call,
                 before: &before,
                 answer: &mut answer,
                 table: &mut table,
@@ -557,7 +640,7 @@ mod tests {
     fn impostors_of_document_01_are_found() {
         // A write that stores its first ADU and merely lists addresses for the rest.
         assert!(is_found(|left| {
-            if let Command::WriteByBlock { block, count, .. } = left.command {
+            if let Call::Command(Command::WriteByBlock { block, count, .. }) = left.call {
                 if *left.answer == Answer::Done && count > 1 {
                     let capacity = left.table.config.adus_in_block();
                     let first = block * capacity + left.before.blocks[block as usize].written;
@@ -567,20 +650,21 @@ mod tests {
         }));
         // One that says 14 with the table unread.
         assert!(is_found(|left| {
-            if matches!(left.command, Command::Create { .. }) && *left.answer == Answer::Done {
+            let create = matches!(left.call, Call::Command(Command::Create { .. }));
+            if create && *left.answer == Answer::Done {
                 *left.answer = Answer::Refused(14);
                 *left.table = left.before.clone();
             }
         }));
         // One that answers Close and moves no block.
         assert!(is_found(|left| {
-            if matches!(left.command, Command::Close { .. }) {
+            if matches!(left.call, Call::Command(Command::Close { .. })) {
                 *left.table = left.before.clone();
             }
         }));
         // One that hands out block 0 always.
         assert!(is_found(|left| {
-            if matches!(left.command, Command::Erase { .. }) {
+            if matches!(left.call, Call::Command(Command::Erase { .. })) {
                 if let Answer::Block(number) = left.answer {
                     *number = 0;
                 }
@@ -593,7 +677,8 @@ mod tests {
         }));
         // A Page with an invented written count.
         assert!(is_found(|left| {
-            if matches!(left.command, Command::Page { .. }) && *left.answer == Answer::Done {
+            let page = matches!(left.call, Call::Command(Command::Page { .. }));
+            if page && *left.answer == Answer::Done {
                 left.bytes[20] ^= 1;
             }
         }));
@@ -603,7 +688,7 @@ mod tests {
     fn small_deviations_are_found() {
         // A write beyond what success fills.
         assert!(is_found(|left| {
-            if let Command::Read { count, .. } = left.command {
+            if let Call::Command(Command::Read { count, .. }) = left.call {
                 if *left.answer == Answer::Done && left.words.len() as u64 > count {
                     left.words[count as usize] = 0;
                 }
@@ -611,20 +696,22 @@ mod tests {
         }));
         // A refused write that leaves an address.
         assert!(is_found(|left| {
-            let write = matches!(left.command, Command::WriteByBlock { .. });
+            let write = matches!(left.call, Call::Command(Command::WriteByBlock { .. }));
             if write && *left.answer == Answer::Refused(15) {
                 left.words[0] = 1;
             }
         }));
         // A record at S or above that is changed.
         assert!(is_found(|left| {
-            if matches!(left.command, Command::Pulse { .. }) && left.table.config.blocks < 256 {
+            let pulse = matches!(left.call, Call::Command(Command::Pulse { .. }));
+            if pulse && left.table.config.blocks < 256 {
                 left.table.blocks[255].erases = 0;
             }
         }));
         // An erase count that passes its end.
         assert!(is_found(|left| {
-            if let (Command::Erase { .. }, Answer::Block(number)) = (left.command, &left.answer) {
+            let erase = matches!(left.call, Call::Command(Command::Erase { .. }));
+            if let (true, Answer::Block(number)) = (erase, &left.answer) {
                 let number = *number as usize;
                 left.table.blocks[number].erases =
                     left.before.blocks[number].erases.wrapping_add(1);
@@ -652,8 +739,99 @@ mod tests {
     }
 
     #[test]
-    fn arguments_are_numbers() {
-        let read = |words: &[&str]| numbers(&words.iter().map(|&w| w.into()).collect::<Vec<_>>());
+    fn impostors_of_the_recorder_are_found() {
+        // An append that frees another Closed block than the one with the least serial.
+        assert!(is_found(|left| {
+            if let Call::Append { domain, .. } = left.call {
+                let blocks = &mut left.table.blocks[..left.before.config.blocks as usize];
+                let changed = |number: &usize| {
+                    let before = &left.before.blocks[*number];
+                    u64::from(before.holder) == domain && blocks[*number].serial != before.serial
+                };
+                let freed = (0..blocks.len()).find(changed);
+                let kept = (0..blocks.len()).find(|number| {
+                    let block = &blocks[*number];
+                    u64::from(block.holder) == domain && matches!(block.state, State::Closed(_))
+                });
+                if let (Some(freed), Some(kept)) = (freed, kept) {
+                    if blocks[freed].state == State::Free {
+                        blocks.swap(freed, kept);
+                    }
+                }
+            }
+        }));
+        // One that frees nothing, and answers 13.
+        assert!(is_found(|left| {
+            if matches!(left.call, Call::Append { .. }) && *left.answer == Answer::Done {
+                let freed = met(&left.call, left.before, left.table)[0];
+                if freed {
+                    *left.answer = Answer::Refused(13);
+                    *left.table = left.before.clone();
+                }
+            }
+        }));
+        // One that frees a block and is refused all the same.
+        assert!(is_found(|left| {
+            if let (Call::Append { domain, .. }, Answer::Refused(12)) = (left.call, &left.answer) {
+                let its = |block: &&mut Block| u64::from(block.holder) == domain;
+                let closed = |block: &&mut Block| matches!(block.state, State::Closed(_));
+                if let Some(block) =
+                    left.table.blocks.iter_mut().filter(closed).find(|block| its(block))
+                {
+                    *block = Block { erases: block.erases, ..Block::default() };
+                }
+            }
+        }));
+        // An append to a domain of another shape.
+        assert!(is_found(|left| {
+            if let (Call::Append { domain, .. }, Answer::Refused(6)) = (left.call, &left.answer) {
+                if left.table.domains[domain as usize - 1].quota >= 2 {
+                    *left.answer = Answer::Done;
+                }
+            }
+        }));
+        // Samples with the newest first.
+        assert!(is_found(|left| {
+            if let (Call::Latest { count, .. }, Answer::Done) = (left.call, &left.answer) {
+                left.words[..count as usize].reverse();
+            }
+        }));
+        // Samples by the numbers of the blocks.
+        assert!(is_found(|left| {
+            if let (Call::Latest { domain, count }, Answer::Done) = (left.call, &left.answer) {
+                let capacity = left.before.config.adus_in_block();
+                let blocks = left.before.blocks[..left.before.config.blocks as usize].iter();
+                let its = blocks.zip(0..).filter(|(block, _)| u64::from(block.holder) == domain);
+                let kept: Vec<u64> = its
+                    .flat_map(|(block, number)| {
+                        &left.store[(number * capacity) as usize..][..block.written as usize]
+                    })
+                    .copied()
+                    .collect();
+                let last = &kept[kept.len() - count as usize..];
+                left.words[..count as usize].copy_from_slice(last);
+            }
+        }));
+        // Samples beyond those that were asked for.
+        assert!(is_found(|left| {
+            if let (Call::Latest { count, .. }, Answer::Done) = (left.call, &left.answer) {
+                if let Some(word) = left.words.get_mut(count as usize) {
+                    *word = 0;
+                }
+            }
+        }));
+        // Fewer samples than were asked for, where fewer are kept.
+        assert!(is_found(|left| {
+            if matches!(left.call, Call::Latest { .. }) && *left.answer == Answer::Refused(15) {
+                *left.answer = Answer::Done;
+            }
+        }));
+    }
+
+    #[test]
+    fn arguments_are_the_number_of_commands_and_the_seed() {
+        let read =
+            |words: &[&str]| numbers(&words.iter().map(|&word| word.into()).collect::<Vec<_>>());
         assert_eq!(read(&[]), Some([2_000_000, 1]));
         assert_eq!(read(&["5", "7"]), Some([5, 7]));
         assert_eq!(read(&["5", "7", "9"]), None);

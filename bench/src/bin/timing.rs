@@ -4,16 +4,15 @@
 //!
 //! Every row is a list of commands that can be repeated for ever on the drive that it begins with.
 //! Both sides run it on equal copies, in turns; after each turn their answers' checksums, tables,
-//! stores and outputs must agree. Exit status: 0, 1 at a difference, 2 if the library is missing
-//! or the arguments are not as above.
+//! stores and outputs must agree. Exit status: 0, 1 at a difference, 2 if the library is missing or
+//! the arguments are not as above.
 
 #![forbid(unsafe_code)]
 #![cfg_attr(not(trial), allow(dead_code))]
 
-use bench::flat::{
-    answer_number, command_of, command_words, fill_row, from_row, to_row, COMMAND_WORDS,
-};
-use bench::manager::{Answer, Command, Config, Listed, State, Table, ALL_ONES, ANY_BLOCK};
+use bench::flat::{answer_number, call_of, call_words, fill_row, from_row, to_row, COMMAND_WORDS};
+use bench::manager::{Answer, Block, Command, Config, Listed, State, Table, ALL_ONES, ANY_BLOCK};
+use bench::recorder::{self, Call};
 use std::hint::black_box;
 use std::process::ExitCode;
 use std::time::{Duration, Instant};
@@ -29,6 +28,8 @@ const FIRST_ROUNDS: u64 = 2_000;
 const DOMAINS: u64 = 8;
 /// The domain that most rows are about; it holds block 0, which is full and Closed.
 const OWN: u64 = 1;
+/// The domain that has blocks reserved, and the recorder's domain where there is one.
+const RESERVED: u64 = DOMAINS;
 /// A domain that does not exist.
 const NEW: u64 = 9;
 const PLACEMENTS: u64 = 8;
@@ -50,7 +51,8 @@ fn main() -> ExitCode {
         eprintln!("timing [--row NAME] [--blocks S] [--list]");
         return ExitCode::from(2);
     };
-    let rows: Vec<Row> = all_rows().into_iter().filter(|row| choice.takes(row)).collect();
+    let rows = all_rows();
+    let rows: Vec<Row> = rows.into_iter().filter(|row| choice.takes(row)).collect();
     if rows.is_empty() {
         eprintln!("timing: no such row; --list tells them all");
         return ExitCode::from(2);
@@ -64,6 +66,7 @@ fn main() -> ExitCode {
     match measure_all(&mut Library, &rows, TURNS) {
         Ok(times) => {
             print_growth(&rows, &times);
+            print_appends(&rows, &times);
             ExitCode::SUCCESS
         }
         Err(difference) => {
@@ -137,8 +140,8 @@ impl Side for Manager {
         let commands = commands.as_chunks::<COMMAND_WORDS>().0;
         let (mut next, mut sum) = (0, 0);
         for _ in 0..rounds {
-            let command = command_of(black_box(&commands[next])).expect("a command");
-            let answer = table.serve(command, store, words, bytes);
+            let call = call_of(black_box(&commands[next])).expect("a command");
+            let answer = recorder::serve(&mut table, call, store, words, bytes);
             sum = (sum * 31 + answer_number(black_box(answer))) % (1 << 32);
             next += 1;
             if next == commands.len() {
@@ -171,9 +174,9 @@ impl Row {
         let commands = self.commands.as_chunks::<COMMAND_WORDS>().0;
         (0..2).all(|_| {
             commands.iter().all(|words| {
-                let command = command_of(words).expect("a command");
+                let call = call_of(words).expect("a command");
                 let Drive { store, words, bytes, .. } = &mut drive;
-                match table.serve(command, store, words, bytes) {
+                match recorder::serve(&mut table, call, store, words, bytes) {
                     Answer::Refused(number) => self.refusal == Some(number),
                     _ => self.refusal.is_none(),
                 }
@@ -185,6 +188,7 @@ impl Row {
 // Drives and rows.
 
 /// A drive with 8 domains and blocks in all states, made by commands, and with some age planted.
+#[derive(Clone)]
 struct Busy {
     table: Table,
     store: Vec<u64>,
@@ -203,15 +207,17 @@ impl Busy {
         }
         busy.fill_blocks();
         // The last domain has an eighth of the drive reserved, and holds nothing.
-        busy.create(DOMAINS, config.blocks / 8 * config.planes_in_block());
+        busy.create(RESERVED, config.blocks / 8 * config.planes_in_block());
         busy.age();
         assert!(busy.table.is_sound());
         busy
     }
 
-    fn serve(&mut self, command: Command) -> Answer {
-        let answer = self.table.serve(command, &mut self.store, &mut self.words, &mut self.bytes);
-        assert!(!matches!(answer, Answer::Refused(_)), "{command:?}: {answer:?}");
+    fn serve(&mut self, call: impl Into<Call>) -> Answer {
+        let call = call.into();
+        let Busy { table, store, words, bytes } = self;
+        let answer = recorder::serve(table, call, store, words, bytes);
+        assert!(!matches!(answer, Answer::Refused(_)), "{call:?}: {answer:?}");
         answer
     }
 
@@ -290,7 +296,7 @@ impl Busy {
         self.table.config.blocks - 1
     }
 
-    fn row(&self, name: &str, commands: &[Command]) -> Row {
+    fn row<C: Copy + Into<Call>>(&self, name: &str, commands: &[C]) -> Row {
         Row {
             name: name.into(),
             drive: Drive {
@@ -299,7 +305,7 @@ impl Busy {
                 words: self.words.clone(),
                 bytes: self.bytes.clone(),
             },
-            commands: commands.iter().flat_map(command_words).collect(),
+            commands: commands.iter().flat_map(|&command| call_words(&command.into())).collect(),
             refusal: None,
         }
     }
@@ -322,6 +328,7 @@ fn all_rows() -> Vec<Row> {
         let name = format!("Erase + Close, C {}", busy.table.config.adus_in_block());
         rows.push(busy.row(&name, &erase_and_close()));
     }
+    rows.extend(DRIVES.iter().flat_map(|&blocks| recordings(&Busy::new(shape(blocks, 1, 1)))));
     for row in &rows {
         assert!(row.is_as_said(), "{} at S {} goes otherwise", row.name, row.blocks());
     }
@@ -398,6 +405,97 @@ fn transfers(busy: &Busy) -> Vec<Row> {
         busy.row(&format!("Read {count} expecting all ones, C 1024"), &[any])
     };
     counts.map(write).into_iter().chain(counts.map(read)).chain(counts.map(read_any)).collect()
+}
+
+const RECORDERS_WRITE: &str = "Recorder's drive: Write 1, 128 times, + Free";
+const RECORDERS_CLOSE: &str = "Recorder's drive: Close, Closed already";
+const APPEND: &str = "Append, none freed, 128 times, + Free";
+const APPEND_THAT_FREES: &str = "Append that frees + Close";
+
+/// The rows of the recorder at each S, and of two commands on its drive to hold them against.
+fn recordings(busy: &Busy) -> Vec<Row> {
+    let empty = busy.with_recorder();
+    let full = empty.recorded();
+    let append = |i| Call::Append { domain: RESERVED, sample: i << 20 };
+    let write = |i| {
+        let start = i << 20;
+        Command::WriteByPlacement { domain: RESERVED, placement: 0, start, count: 1 }.into()
+    };
+    let latest =
+        |count| full.row(&format!("Latest {count}"), &[Call::Latest { domain: RESERVED, count }]);
+    vec![
+        empty.row(RECORDERS_WRITE, &empty.filled_by(write)),
+        full.row(RECORDERS_CLOSE, &[full.close_again()]),
+        empty.row(APPEND, &empty.filled_by(append)),
+        full.row(APPEND_THAT_FREES, &full.appends_that_free()),
+        latest(1),
+        latest(16),
+        latest(256),
+    ]
+}
+
+// The recorder's domain.
+impl Busy {
+    /// As many blocks as are Free are reserved for a domain of the recorder's shape.
+    fn with_recorder(&self) -> Busy {
+        let mut busy = self.clone();
+        let config = busy.table.config;
+        busy.serve(Command::Delete { domain: RESERVED });
+        busy.serve(Command::Create {
+            domain: RESERVED,
+            guarantee: config.blocks / 4 * config.planes_in_block(),
+            quota: 0,
+            placements: 1,
+            limit: 1,
+        });
+        busy
+    }
+
+    /// Every block of the quota is full; their serials are not in the order of their numbers.
+    fn recorded(&self) -> Busy {
+        let mut busy = self.clone();
+        let record = busy.table.domains[RESERVED as usize - 1];
+        for sample in 0..u64::from(record.quota) * busy.table.config.adus_in_block() {
+            busy.serve(Call::Append { domain: RESERVED, sample });
+        }
+        for block in &mut busy.table.blocks {
+            if u64::from(block.holder) == RESERVED {
+                block.serial = block.serial * 37 % 257;
+            }
+        }
+        busy.table.domains[RESERVED as usize - 1].last = 256;
+        assert!(busy.table.is_sound());
+        busy
+    }
+
+    /// Calls that open the chosen block and fill it; then it is freed, and chosen again.
+    fn filled_by(&self, call: impl Fn(u64) -> Call) -> Vec<Call> {
+        let free = Command::Free { domain: RESERVED, block: self.chosen() };
+        (0..self.table.config.adus_in_block()).map(call).chain([free.into()]).collect()
+    }
+
+    /// Close of a Closed block of the recorder's.
+    fn close_again(&self) -> Command {
+        let its = |block: &Block| u64::from(block.holder) == RESERVED;
+        let block = self.table.blocks.iter().position(its).expect("a block") as u64;
+        Command::Close { domain: RESERVED, block }
+    }
+
+    /// Each append frees the oldest block and opens it again, as it is the only one that is Free;
+    /// then it is closed. The list goes once through all blocks of the quota.
+    fn appends_that_free(&self) -> Vec<Call> {
+        let mut busy = self.clone();
+        let mut calls = Vec::new();
+        for sample in 0..busy.table.domains[RESERVED as usize - 1].quota.into() {
+            let append = Call::Append { domain: RESERVED, sample };
+            busy.serve(append);
+            let (_, block, _) = busy.table.config.address_fields(busy.words[0]);
+            let close = Command::Close { domain: RESERVED, block };
+            busy.serve(close);
+            calls.extend([append, close.into()]);
+        }
+        calls
+    }
 }
 
 impl Busy {
@@ -542,6 +640,30 @@ fn print_growth(rows: &[Row], times: &[Times]) {
     }
 }
 
+/// What an append costs beside a Write by placement of one ADU on the same drive. A row that ends
+/// with a Close has two calls, so the time of an append that frees is what is left of both.
+fn print_appends(rows: &[Row], times: &[Times]) {
+    let mut headed = false;
+    for blocks in DRIVES {
+        let time = |name: &str| {
+            let is = |(row, _): &(&Row, &Times)| row.name == name && row.blocks() == blocks;
+            rows.iter().zip(times).find(is).map(|(_, times)| [times.other, times.rust])
+        };
+        let found = [RECORDERS_WRITE, RECORDERS_CLOSE, APPEND, APPEND_THAT_FREES].map(time);
+        let [Some(write), Some(close), Some(append), Some(pair)] = found else {
+            continue;
+        };
+        if !headed {
+            println!("\n{:42} {:>4} {:>10} {:>10}", "times a Write of one ADU", "S", "Rattle", "Rust");
+            headed = true;
+        }
+        let ratio = |side: usize| append[side] / write[side];
+        println!("{:42} {blocks:>4} {:>10.2} {:>10.2}", "Append, none freed", ratio(0), ratio(1));
+        let ratio = |side: usize| (2.0 * pair[side] - close[side]) / write[side];
+        println!("{:42} {blocks:>4} {:>10.2} {:>10.2}", "Append that frees", ratio(0), ratio(1));
+    }
+}
+
 #[cfg(test)]
 mod tests {
     use super::*;
@@ -554,7 +676,37 @@ mod tests {
             let same = |other: &Row| other.name == row.name && other.blocks() == row.blocks();
             assert!(!rows[..i].iter().any(same), "{} {}", row.name, row.blocks());
         }
-        assert_eq!(rows.len(), 4 * 18 + 12 + 3);
+        assert_eq!(rows.len(), 4 * 18 + 12 + 3 + 4 * 7);
+    }
+
+    #[test]
+    fn appends_free_where_their_rows_say_so() {
+        for blocks in DRIVES {
+            let rows = recordings(&Busy::new(shape(blocks, 1, 1)));
+            // Does every append open a block, and how many does the domain then hold?
+            let held = |row: &Row| -> Vec<(bool, usize)> {
+                let mut drive = row.drive.clone();
+                let mut table = from_row(&drive.table);
+                let mut found = Vec::new();
+                for words in row.commands.as_chunks::<COMMAND_WORDS>().0 {
+                    let call = call_of(words).expect("a command");
+                    let last = table.domains[RESERVED as usize - 1].last;
+                    let Drive { store, words, bytes, .. } = &mut drive;
+                    recorder::serve(&mut table, call, store, words, bytes);
+                    if matches!(call, Call::Append { .. }) {
+                        let opened = table.domains[RESERVED as usize - 1].last > last;
+                        let its = |block: &&Block| u64::from(block.holder) == RESERVED;
+                        found.push((opened, table.blocks.iter().filter(its).count()));
+                    }
+                }
+                found
+            };
+            let quota = blocks as usize / 4;
+            let mut none_freed = vec![(false, 1); 128];
+            none_freed[0].0 = true;
+            assert_eq!(held(&rows[2]), none_freed);
+            assert_eq!(held(&rows[3]), vec![(true, quota); quota]);
+        }
     }
 
     #[test]
@@ -612,8 +764,10 @@ mod tests {
             Choice::read(&words.iter().map(|&word| word.into()).collect::<Vec<_>>())
         };
         assert_eq!(read(&[]), Some(Choice::default()));
-        let both = Choice { row: Some("Page".into()), blocks: Some(8), list: false };
+        let both = Choice { row: Some("Page".into()), blocks: Some(8), ..Choice::default() };
         assert_eq!(read(&["--row", "Page", "--blocks", "8"]), Some(both));
+        let list = Choice { list: true, ..Choice::default() };
+        assert_eq!(read(&["--list"]), Some(list));
         assert_eq!(read(&["--row"]), None);
         assert_eq!(read(&["Page"]), None);
     }

@@ -2,6 +2,7 @@
 #![allow(dead_code)]
 
 use bench::manager::{Answer, Block, Command, Config, Listed, State, Table, ANY_BLOCK};
+use bench::recorder::{self, Call};
 
 pub use bench::manager::Answer::{Block as AnswerBlock, Done, Refused};
 
@@ -29,20 +30,22 @@ impl Drive {
         }
     }
 
-    /// Serves a command, and checks what holds for every one: a refused command changes nothing,
-    /// and a sound table stays sound.
-    pub fn serve(&mut self, command: Command) -> Answer {
+    /// Serves a command or a recorder's call, and checks what holds for every one: a refused one
+    /// changes nothing, and a sound table stays sound.
+    pub fn serve(&mut self, call: impl Into<Call>) -> Answer {
+        let call = call.into();
         let before =
             (self.table.clone(), self.store.clone(), self.words.clone(), self.bytes.clone());
         let sound = self.table.is_sound();
-        let answer = self.table.serve(command, &mut self.store, &mut self.words, &mut self.bytes);
+        let Drive { table, store, words, bytes } = self;
+        let answer = recorder::serve(table, call, store, words, bytes);
         if let Refused(_) = answer {
-            assert!(self.table == before.0, "{command:?} was refused and changed the table");
-            assert!(self.store == before.1, "{command:?} was refused and changed the store");
-            assert!(self.words == before.2, "{command:?} was refused and changed the words");
-            assert!(self.bytes == before.3, "{command:?} was refused and changed the bytes");
+            assert!(self.table == before.0, "{call:?} was refused and changed the table");
+            assert!(self.store == before.1, "{call:?} was refused and changed the store");
+            assert!(self.words == before.2, "{call:?} was refused and changed the words");
+            assert!(self.bytes == before.3, "{call:?} was refused and changed the bytes");
         }
-        assert_eq!(self.table.is_sound(), sound, "{command:?}");
+        assert_eq!(self.table.is_sound(), sound, "{call:?}");
         answer
     }
 
@@ -103,6 +106,14 @@ impl Drive {
 
     pub fn pulse(&mut self, seconds: u64) -> Answer {
         self.serve(Command::Pulse { seconds })
+    }
+
+    pub fn append(&mut self, domain: u64, sample: u64) -> Answer {
+        self.serve(Call::Append { domain, sample })
+    }
+
+    pub fn latest(&mut self, domain: u64, count: u64) -> Answer {
+        self.serve(Call::Latest { domain, count })
     }
 
     pub fn block(&self, number: usize) -> Block {

@@ -11,8 +11,9 @@ ghost use mathlib.Core.List.{[]};
 ghost use mathlib.Core.Path.{_≡_};
 ghost use Prim.Native.Nat.{_+_, _*_, _/_, _≤_, min};
 ghost use lib.ListN.{drop, length, take};
-ghost use Rattle.answer_lines.specs.Lines.{Prints, addressLine, answerLine, filledText, okLine, outcomeLine};
-ghost use Rattle.answer_lines.specs.Texts.{bytesText, descriptorCount, isEndMark, spaced, wordsText};
+ghost use Rattle.answer_lines.specs.Lines.{Prints, addressLine, answerLine, countedWords, filledText};
+ghost use Rattle.answer_lines.specs.Lines.{okLine, outcomeLine, samplesLine};
+ghost use Rattle.answer_lines.specs.Texts.{bytesText, descriptorCount, isEndMark, spaced};
 
 // So many, or as many as there are.
 fn at_most(count: u64, all: usize) -> usize
@@ -48,7 +49,7 @@ fn descriptor_count(bytes: &[u8]) -> usize
 }
 
 fn print_words(count: Adus, words: &[u64], out: &mut [u8]) -> usize
-    ensures { λ r. ⌜ Prints (okLine (wordsText (take (count .0) (now (words .entry))))) (now (out .entry)) r (now (out .exit)) ⌝ }
+    ensures { λ r. ⌜ Prints (okLine (countedWords count (now (words .entry)))) (now (out .entry)) r (now (out .exit)) ⌝ }
 {
     let n = at_most(count.0, words.len());
     words_line(&words[..n], out)
@@ -101,6 +102,17 @@ pub fn print_answer(
 {
     match answer {
         Answer::Done => print_filled(command, words, bytes, out),
+        Answer::Block(_) => print_outcome(answer, out),
+        Answer::Refused(_) => print_outcome(answer, out),
+    }
+}
+
+// The line for an answer to `append` or `latest`, with so many words that it has filled.
+pub fn print_samples(answer: Answer, count: Adus, words: &[u64], out: &mut [u8]) -> usize
+    ensures { λ r. ⌜ Prints (samplesLine answer count (now (words .entry))) (now (out .entry)) r (now (out .exit)) ⌝ }
+{
+    match answer {
+        Answer::Done => print_words(count, words, out),
         Answer::Block(_) => print_outcome(answer, out),
         Answer::Refused(_) => print_outcome(answer, out),
     }

@@ -6,3 +6,4 @@ mod puts;
 pub use answers::print_address;
 pub use answers::print_answer;
 pub use answers::print_outcome;
+pub use answers::print_samples;

@@ -31,8 +31,8 @@ use Rattle.rules.proofs.Questions.{after, yes-in}
 use Rattle.rules.specs.Blocks.{anyBlock, chosenBlock, erasedBlock, openedFor}
 use Rattle.rules.specs.Calls.{calling, lending}
 use Rattle.rules.specs.Drive.{Drive, blockAt, domainAt, overwritten, size, withBlock, withDomain}
-use Rattle.rules.specs.Effects.{Effect, Serves, effect, erasing}
-use Rattle.rules.specs.Questions.{isErasable, questions}
+use Rattle.rules.specs.Effects.{Effect, Serves, effect, erasing, questions}
+use Rattle.rules.specs.Questions.{isErasable}
 use Rattle.rules.specs.Soundness.{sound}
 use Rattle.survey.proofs.Seeing.{changed-nothing, changed-opening, limits-seen, sound-limits}
 use Rattle.survey.specs.Sight.{Sees, SeesBlock, SeesChoice}

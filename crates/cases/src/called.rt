@@ -8,8 +8,11 @@ use model::Answer;
 use model::Command;
 use model::Listed;
 use model::Table;
+use recorder::append;
+use recorder::latest;
+use tables::Served;
 
-// The words that name a command, and one that follows `list`.
+// The words that name a command or a call of the recorder, and one that follows `list`.
 const CREATE: u64 = 0x637265617465;
 
 const CHANGE: u64 = 0x6368616e6765;
@@ -33,6 +36,10 @@ const PAGE: u64 = 0x70616765;
 const LIST: u64 = 0x6c697374;
 
 const PULSE: u64 = 0x70756c7365;
+
+const APPEND: u64 = 0x617070656e64;
+
+const LATEST: u64 = 0x6c6174657374;
 
 const OPEN: u64 = 0x6f70656e;
 
@@ -70,6 +77,9 @@ pub fn answered(answer: Answer, table: Table) -> Reply {
 enum Asked {
     Nothing,
     For(Command),
+    // The recorder's two calls: a domain, and a sample or a count.
+    Append(u64, u64),
+    Latest(u64, Adus),
 }
 
 fn listed_of(word: u64) -> Listed {
@@ -139,11 +149,19 @@ fn command_of(line: Line) -> Asked {
             listed: listed_of(b),
         }),
         PULSE => Asked::For(Command::Pulse { seconds: a }),
+        APPEND => Asked::Append(a, b),
+        LATEST => Asked::Latest(a, Adus(b)),
         _ => Asked::Nothing,
     }
 }
 
-// The command is served. A word that is no command is answered 99.
+fn replied(served: Served) -> Reply {
+    let answer = served.answer;
+    let after = served.table;
+    answered(answer, after)
+}
+
+// The command or the recorder's call is served. A word that is no command is answered 99.
 pub fn called(
     table: Table,
     line: Line,
@@ -157,11 +175,8 @@ pub fn called(
             value: NONE,
             table,
         },
-        Asked::For(command) => {
-            let served = serve(table, command, store, words, bytes);
-            let answer = served.answer;
-            let after = served.table;
-            answered(answer, after)
-        }
+        Asked::For(command) => replied(serve(table, command, store, words, bytes)),
+        Asked::Append(domain, sample) => replied(append(table, domain, sample, store, words)),
+        Asked::Latest(domain, count) => replied(latest(table, domain, count, store, words)),
     }
 }

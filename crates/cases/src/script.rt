@@ -21,6 +21,8 @@
 //     page D BLOCK = NUMBER
 //     list D open|closed = NUMBER
 //     pulse SECONDS = NUMBER
+//     append D SAMPLE = NUMBER                    the recorder's two calls
+//     latest D N = NUMBER
 //
 // A command is called on the drive as it is. Its answer is compared with what stands behind the `=`,
 // and the whole table, store, words and bytes with what is wanted: what they were, but for the `want`
@@ -396,7 +398,7 @@ fn lines(
     wanted_words: &mut [u64],
     wanted_bytes: &mut [u8],
 )
-    requires { ⌜ length (now text) ≤ 65536 ⌝ }
+    requires { ⌜ length (now text) ≤ 131072 ⌝ }
 {
     let table = table_with(no_config());
     let mut desk = Desk {
@@ -423,11 +425,11 @@ fn lines(
     }
 }
 
-// The whole of standard input, 65,535 bytes at most.
+// The whole of standard input, 131,071 bytes at most.
 pub fn run() {
-    let mut text = io::large_buffer();
+    let mut text = [0; 131072];
     let n = io::read_full(STDIN_FILENO, &mut text);
-    if n == 65536 {
+    if n == 131072 {
         io::write_all(STDOUT_FILENO, b"WRONG  the script is too long\n");
     }
     let mut store = [0; 1280];

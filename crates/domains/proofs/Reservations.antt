@@ -24,8 +24,7 @@ use Rattle.rules.proofs.Questions.{after, before, from, yes-in}
 use Rattle.rules.specs.Calls.{Call, _asking_, calling, profile}
 use Rattle.rules.specs.Domains.{arePlaneCounts, changedDomain, coveredWith}
 use Rattle.rules.specs.Drive.{heldCount, withDomain}
-use Rattle.rules.specs.Effects.{Fills, changing, effect}
-use Rattle.rules.specs.Questions.{questions}
+use Rattle.rules.specs.Effects.{Fills, changing, effect, questions}
 use Rattle.survey.proofs.Outcomes.{changed-outcome, later-outcome}
 use Rattle.survey.proofs.Seeing.{changed-domain}
 use Rattle.survey.specs.Sight.{Sees}

@@ -7,6 +7,8 @@ use crate::show::show;
 use answer_lines::print_address;
 use answer_lines::print_answer;
 use answer_lines::print_outcome;
+use answer_lines::print_samples;
+use geometry::Adus;
 use geometry::Config;
 use geometry::Elements;
 use geometry::no_config;
@@ -17,10 +19,13 @@ use manager::serve;
 use manager::start;
 use model::Command;
 use model::Table;
+use recorder::append;
+use recorder::latest;
 use script_lines::Buffer;
 use script_lines::Length;
 use script_lines::Line;
 use script_lines::parse;
+use tables::Served;
 ghost use Prim.Native.Nat.{_≤_};
 
 // The drive's table and the lengths that are lent, FULL for as long as the drive needs it; how many
@@ -62,6 +67,16 @@ fn lent(length: u64, full: u64, most: usize) -> usize
     }
 }
 
+// How much is lent of the store.
+fn lent_store(console: Console, most: usize) -> usize
+    ensures { λ r. ⌜ r ≤ most ⌝ }
+{
+    let table = console.table;
+    let config = table.config;
+    let needed = store_length(config);
+    lent(console.store, needed.0, most)
+}
+
 // The first bytes of a buffer are a line, with its newline.
 fn print(out: &[u8], length: usize) {
     if length <= out.len() {
@@ -96,9 +111,7 @@ fn served(
     out: &mut [u8],
 ) -> Console {
     let table = console.table;
-    let config = table.config;
-    let needed = store_length(config);
-    let entries = lent(console.store, needed.0, store.len());
+    let entries = lent_store(console, store.len());
     let room = lent(console.words, FULL, words.len());
     let size = lent(console.bytes, FULL, bytes.len());
     let done = serve(
@@ -115,6 +128,59 @@ fn served(
     let n = print_answer(command, answer, words, bytes, out);
     print(out, n);
     next
+}
+
+// What the recorder has answered, with so many words that it has filled.
+fn recorded(console: Console, done: Served, count: Adus, words: &[u64], out: &mut [u8]) -> Console {
+    let after = done.table;
+    let mut next = console;
+    next.table = after;
+    let answer = done.answer;
+    let n = print_samples(answer, count, words, out);
+    print(out, n);
+    next
+}
+
+fn appended(
+    console: Console,
+    domain: u64,
+    sample: u64,
+    store: &mut [u64],
+    words: &mut [u64],
+    out: &mut [u8],
+) -> Console {
+    let table = console.table;
+    let entries = lent_store(console, store.len());
+    let room = lent(console.words, FULL, words.len());
+    let done = append(
+        table,
+        domain,
+        sample,
+        &mut store[..entries],
+        &mut words[..room],
+    );
+    recorded(console, done, Adus(1), words, out)
+}
+
+fn read_back(
+    console: Console,
+    domain: u64,
+    count: Adus,
+    store: &mut [u64],
+    words: &mut [u64],
+    out: &mut [u8],
+) -> Console {
+    let table = console.table;
+    let entries = lent_store(console, store.len());
+    let room = lent(console.words, FULL, words.len());
+    let done = latest(
+        table,
+        domain,
+        count,
+        &mut store[..entries],
+        &mut words[..room],
+    );
+    recorded(console, done, count, words, out)
 }
 
 fn made(console: Console, domain: u64, block: u64, e: Elements, bytes: &mut [u8], out: &mut [u8]) {
@@ -229,6 +295,8 @@ pub fn answer(
             shown(console);
             console
         }
+        Line::Append(domain, sample) => appended(console, domain, sample, store, words, out),
+        Line::Latest(domain, count) => read_back(console, domain, count, store, words, out),
         Line::Wrong(expected, before) => {
             tell_expected(console.number, expected, before);
             console

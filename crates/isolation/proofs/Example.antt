@@ -7,7 +7,7 @@ use lib.Dec.{eqb}
 use Rattle.geometry.specs.Shape.{adusPerBlock, eachInRange, planesPerBlock, storeLength, withinLimits}
 use Rattle.geometry.specs.declared.shape.Config.{Config}
 use Rattle.isolation.specs.Example.{NotEmpty}
-use Rattle.isolation.specs.Runs.{RunOf, first}
+use Rattle.isolation.specs.Runs.{RunOf, first, lendsAll}
 use Rattle.isolation.proofs.Existing.{runs-every-list}
 use Rattle.rules.proofs.Claims as rules
 use Rattle.rules.specs.Calls.{Call}
@@ -21,10 +21,10 @@ begins : {c : Config} {store : List ℕ} {ks : List Call} {f : ℕ → Bool} (r 
 begins r = ap₂ begun (r .configured) (r .lent-first)
 
 pub not-empty : NotEmpty
-unfolding withinLimits eachInRange adusPerBlock planesPerBlock storeLength
+unfolding withinLimits eachInRange adusPerBlock planesPerBlock storeLength lendsAll
 not-empty =
-    let one = runs-every-list small (zeros .store) quiet (λ i. false) refl refl in
-    let two = runs-every-list small (sevens .store) busy (λ i. eqb (i % 2) 1) refl refl in
+    let one = runs-every-list small (zeros .store) quiet (λ i. false) refl refl refl in
+    let two = runs-every-list small (sevens .store) busy (λ i. eqb (i % 2) 1) refl refl refl in
     record {
       one = one;
       two = two;

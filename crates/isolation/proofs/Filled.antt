@@ -11,16 +11,15 @@ use Rattle.geometry.specs.Shape.{storeLength}
 use Rattle.model.specs.declared.command.Command.{Command}
 use Rattle.model.specs.declared.command.Command.the-variants.{ChangeCapacity, Close, Create, Delete, Erase, Free, List as Listing, Page, Pulse, Read}
 use Rattle.model.specs.declared.command.Command.the-variants.{WriteByBlock, WriteByPlacement}
-use Rattle.rules.proofs.Claims.{write-finds-free}
+use Rattle.rules.proofs.Claims.{append-words, latest-gives, write-finds-free}
 use Rattle.rules.proofs.Effects.{bytes-counted}
 use Rattle.rules.proofs.Kept.Calls.{Course}
 use Rattle.rules.proofs.Laws.{block-words, read-words}
 use Rattle.rules.proofs.Questions.{answered-yes}
 use Rattle.rules.specs.Blocks.{erasedBlock}
-use Rattle.rules.specs.Calls.{BytesDue, Call, _asking_, profile, wordCount}
+use Rattle.rules.specs.Calls.{Asked, BytesDue, Call, _asking_, _for_, append, command, latest, profile, profileOf, wordCount}
 use Rattle.rules.specs.Drive.{Drive}
-use Rattle.rules.specs.Effects.{BytesFilled, FillsIf, accepted, byteCount, effect, erasing, verdict, wordsFilled}
-use Rattle.rules.specs.Questions.{questions}
+use Rattle.rules.specs.Effects.{BytesFilled, FillsIf, accepted, byteCount, effect, erasing, questions, verdict, wordsFilled}
 
 -- Erase fills no words, whatever block it opens, ..
 erase-fills-none : (d : ℕ) (block : Option ℕ) (v : Drive) → erasing d block v .words ≡ []
@@ -53,11 +52,17 @@ module _ (v : Drive) (course : Course v) (k : Call) where
   words-counted (Listing d which) e = rw e
   words-counted (Pulse seconds) e = rw e
 
+  words-counted-for : (x : Asked) → verdict v (k for x) ≡ 0 → length (wordsFilled v (k for x)) ≡ wordCount (profileOf x .words)
+  unfolding wordsFilled
+  words-counted-for (command c) e = words-counted c e
+  words-counted-for (append d sample) e = append-words v k (course .shaped) (λ x. course .store) d sample e
+  words-counted-for (latest d count) e = latest-gives v k d count e .2
+
   -- .. of any call, ..
-  pub words-due : length (wordsFilled v k) ≡ cond (accepted v k) (wordCount (profile (k .command) .words)) 0
+  pub words-due : length (wordsFilled v k) ≡ cond (accepted v k) (wordCount (profileOf (k .asks) .words)) 0
   words-due =
       by-test (accepted v k)
-      (λ e. words-counted (k .command) (eqb-true (verdict v k) 0 e) ∙ rw e)
+      (λ e. words-counted-for (k .asks) (eqb-true (verdict v k) 0 e) ∙ rw e)
       (λ e. ap length (refused-fills-none v k e) ∙ rw e)
 
   -- .. and the bytes.
@@ -67,5 +72,5 @@ module _ (v : Drive) (course : Course v) (k : Call) where
   bytes-if false due filled f = ap length f
 
   pub bytes-due : (filled : List ℕ) → BytesFilled v k filled
-      → length filled ≡ cond (accepted v k) (byteCount (v .table) (profile (k .command) .bytes)) 0
-  bytes-due filled f = bytes-if (accepted v k) (profile (k .command) .bytes) filled f
+      → length filled ≡ cond (accepted v k) (byteCount (v .table) (profileOf (k .asks) .bytes)) 0
+  bytes-due filled f = bytes-if (accepted v k) (profileOf (k .asks) .bytes) filled f

@@ -8,4 +8,5 @@ pub mod Expiry
 pub mod Existing
 pub mod Example
 pub mod Moments
+pub mod Retention
 pub mod Claim

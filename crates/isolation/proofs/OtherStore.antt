@@ -14,10 +14,10 @@ use Rattle.model.specs.declared.command.Command.{Command}
 use Rattle.model.specs.declared.command.Command.the-variants.{ChangeCapacity, Close, Create, Delete, Erase, Free, List as Listing, Page, Pulse, Read}
 use Rattle.model.specs.declared.command.Command.the-variants.{WriteByBlock, WriteByPlacement}
 use Rattle.model.specs.declared.table.Table.{Table}
-use Rattle.rules.specs.Calls.{Call, _asking_, profile}
+use Rattle.rules.specs.Calls.{Asked, Call, _asking_, _for_, append, command, latest, profile, profileOf}
 use Rattle.rules.specs.Drive.{Drive}
-use Rattle.rules.specs.Effects.{BytesFilled, FillsIf, accepted, answerTo, effect, step, verdict, wordsFilled}
-use Rattle.rules.specs.Questions.{questions, storeFits}
+use Rattle.rules.specs.Effects.{BytesFilled, FillsIf, accepted, answerTo, effect, questions, step, verdict, wordsFilled}
+use Rattle.rules.specs.Questions.{storeFits}
 use Rattle.rules.specs.Soundness.{sound}
 use Rattle.tables.specs.Serving.{drive}
 
@@ -49,7 +49,7 @@ module _ (t : Table) (store other : List ℕ) (k : Call) where
     table = by-test (accepted v k) (λ e. rw (qs, e) table) (λ e. rw (qs, e));
     keeps = by-test (accepted v k) (λ e. rw e keeps) (λ e. rw e);
     words = by-test (accepted v k) (λ e. rw (qs, e) words) (λ e. rw (qs, e));
-    bytes = λ filled f. subst (λ (q : List Question). FillsIf (eqb (firstNo q) 0) (profile (k .command) .bytes) t filled) qs f;
+    bytes = λ filled f. subst (λ (q : List Question). FillsIf (eqb (firstNo q) 0) (profileOf (k .asks) .bytes) t filled) qs f;
   }
 
   -- A command that is refused.
@@ -65,11 +65,11 @@ module _ (t : Table) (store other : List ℕ) (k : Call) where
         table = rw (no, no');
         keeps = rw no;
         words = rw (no, no');
-        bytes = λ filled b. subst (λ (x : Bool). FillsIf x (profile (k .command) .bytes) t filled) (no' ∙ sym no) b;
+        bytes = λ filled b. subst (λ (x : Bool). FillsIf x (profileOf (k .asks) .bytes) t filled) (no' ∙ sym no) b;
       }
 
   -- One that is asked question 3, by its first no.
-  stopped : profile (k .command) .store ≡ true → storeFits t k ≡ false → SameGiven t store other k
+  stopped : profileOf (k .asks) .store ≡ true → storeFits t k ≡ false → SameGiven t store other k
   unfolding questions firstNo
   stopped asked wrong =
       by-test (sound t)
@@ -94,8 +94,13 @@ never-looks t store other k (Page d n) e = unasked t store other (k asking Page 
 never-looks t store other k (Listing d which) e = unasked t store other (k asking Listing d which) refl refl refl refl refl
 never-looks t store other k (Pulse seconds) e = unasked t store other (k asking Pulse seconds) refl refl refl refl refl
 
+never-looks-for : (t : Table) (store other : List ℕ) (k : Call) (x : Asked) → profileOf x .store ≡ false → SameGiven t store other (k for x)
+never-looks-for t store other k (command c) e = never-looks t store other k c e
+never-looks-for t store other k (append d sample) e = absurd (true≢false e)
+never-looks-for t store other k (latest d count) e = absurd (true≢false e)
+
 pub other-store : (t : Table) (store other : List ℕ) (k : Call) → storeFits t k ≡ false → SameGiven t store other k
 other-store t store other k wrong =
-    by-test (profile (k .command) .store)
+    by-test (profileOf (k .asks) .store)
     (λ asked. stopped t store other k asked wrong)
-    (λ never. never-looks t store other k (k .command) never)
+    (λ never. never-looks-for t store other k (k .asks) never)

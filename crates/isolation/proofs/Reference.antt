@@ -9,7 +9,7 @@ use Rattle.geometry.proofs.Laws.Shape.{by-test}
 use Rattle.geometry.specs.Questions.{Outcome, success}
 use Rattle.geometry.specs.Shape.{withinLimits}
 use Rattle.geometry.specs.declared.shape.Config.{Config}
-use Rattle.isolation.specs.Calls.{ServeCall, StartCall, callOf, configOf, firstTable, startAnswer}
+use Rattle.isolation.specs.Calls.{ProgramCall, StartCall, callOf, configOf, firstTable, startAnswer}
 use Rattle.isolation.specs.Runs.{Handed, Run, Untouched, configuration, exchanges, exchangesOf, first, isOwnStore, afterCall, afterCalls, programAfter, referenceAfter}
 use Rattle.isolation.proofs.Contracts.{start-contract}
 use Rattle.isolation.proofs.Steps.{Stepped, stepped}
@@ -48,12 +48,12 @@ pub same-config : (k : Call) (v : Drive) → Course v → step k v .table .confi
 same-config k v course = call-sequel v k (course-fit course k) .config
 
 -- What a list of calls leaves is what the reference machine has, and each reply is what the rules give.
-record Followed (c : Config) (ks : List ServeCall) (v : Drive) : Type 0 where
+record Followed (c : Config) (ks : List ProgramCall) (v : Drive) : Type 0 where
   leaves : (i : ℕ) → afterCalls c (take i ks) v ≡ run (map callOf (take i ks)) v
   replied : Replied (exchanges ks v) v
   untouched : Untouched c ks v
 
-followed : (c : Config) (ks : List ServeCall) (v : Drive) → Course v → v .table .config ≡ c → Handed c ks v → Followed c ks v
+followed : (c : Config) (ks : List ProgramCall) (v : Drive) → Course v → v .table .config ≡ c → Handed c ks v → Followed c ks v
 unfolding Handed Untouched afterCalls run Replied exchanges
 followed c [] v course config handed = record { leaves = λ i. nothing i; replied = tt; untouched = tt }
   where
@@ -78,7 +78,7 @@ followed c (k ∷ ks) v course config handed =
 
 -- ---- Runs
 
-take-map : (i : ℕ) (ks : List ServeCall) → map callOf (take i ks) ≡ take i (map callOf ks)
+take-map : (i : ℕ) (ks : List ProgramCall) → map callOf (take i ks) ≡ take i (map callOf ks)
 take-map zero ks = refl
 take-map (suc i) [] = refl
 take-map (suc i) (k ∷ ks) = ap (λ (l : List Call). callOf k ∷ l) (take-map i ks)
@@ -87,7 +87,7 @@ module _ (r : Run) where
   pub run-within : withinLimits (configuration r) ≡ true
   run-within = start-within (r .start) (r .accepted)
 
-  run-course : Course (first r)
+  pub run-course : Course (first r)
   run-course = begun-course (configuration r) (r .store) run-within (r .whole)
 
   run-first : drive (firstTable (r .start)) (r .store) ≡ first r
@@ -114,7 +114,7 @@ module _ (r : Run) where
   run-untouched = run-followed .untouched
 
 -- The calls of the exchanges are the run's.
-pub exchanged-calls : (ks : List ServeCall) (v : Drive) → calls (exchanges ks v) ≡ map callOf ks
+pub exchanged-calls : (ks : List ProgramCall) (v : Drive) → calls (exchanges ks v) ≡ map callOf ks
 unfolding exchanges
 exchanged-calls [] v = refl
 exchanged-calls (k ∷ ks) v = ap (λ (l : List Call). callOf k ∷ l) (exchanged-calls ks (step (callOf k) v))

@@ -10,18 +10,17 @@ use Rattle.geometry.proofs.Laws.Questions.{answered-number}
 use Rattle.geometry.proofs.Laws.Shape.{by-test}
 use Rattle.geometry.specs.Questions.{Outcome}
 use Rattle.geometry.specs.declared.shape.Config.{Config}
-use Rattle.isolation.specs.Calls.{ServeCall, callOf, given, handedBack}
+use Rattle.isolation.specs.Calls.{ProgramCall, callOf, given, handedBack}
 use Rattle.isolation.specs.Runs.{afterCall, ifSuccess, isOwnStore, replyOf}
-use Rattle.isolation.proofs.Contracts.{serve-contract}
+use Rattle.isolation.proofs.Contracts.{call-contract}
 use Rattle.isolation.proofs.Filled.{bytes-due, words-due}
 use Rattle.isolation.proofs.OtherStore.{other-store}
 use Rattle.model.specs.declared.table.Table.{Table}
 use Rattle.rules.proofs.Kept.Calls.{Course}
-use Rattle.rules.specs.Calls.{profile, wordCount}
+use Rattle.rules.specs.Calls.{profileOf, wordCount}
 use Rattle.rules.specs.Drive.{Drive, overwritten}
-use Rattle.rules.specs.Effects.{BytesFilled, accepted, answerTo, byteCount, effect, step, verdict, wordsFilled}
+use Rattle.rules.specs.Effects.{BytesFilled, accepted, answerTo, byteCount, effect, questions, step, verdict, wordsFilled}
 use Rattle.rules.specs.Observation.{Replies}
-use Rattle.rules.specs.Questions.{questions}
 use Rattle.tables.specs.Serving.{drive}
 
 -- What was put to the front of a row is its front.
@@ -30,21 +29,21 @@ unfolding overwritten
 front new row = take-append-seam new (drop (length new) row)
 
 -- What a call lent with one drive gives, said of the run's own.
-record Gives (k : ServeCall) (v : Drive) : Type 0 where
+record Gives (k : ProgramCall) (v : Drive) : Type 0 where
   answers : handedBack k .answer ≡ answerTo v (callOf k)
   fills-words : handedBack k .words ≡ overwritten 0 (wordsFilled v (callOf k)) (given k .words)
   fills-bytes : (filled : List ℕ) × BytesFilled v (callOf k) filled × (handedBack k .bytes ≡ overwritten 0 filled (given k .bytes))
 
 -- So its reply is what the rules give, and nothing beyond it is touched.
-record Told (k : ServeCall) (v : Drive) : Type 0 where
+record Told (k : ProgramCall) (v : Drive) : Type 0 where
   replied : Replies v (callOf k) (replyOf v k)
   words : handedBack k .words ≡ overwritten 0 (replyOf v k .words) (given k .words)
   bytes : handedBack k .bytes ≡ overwritten 0 (replyOf v k .bytes) (given k .bytes)
 
-told : (k : ServeCall) (v : Drive) → Course v → Gives k v → Told k v
+told : (k : ProgramCall) (v : Drive) → Course v → Gives k v → Told k v
 told k v course g =
     let call = callOf k in
-    let p = profile (given k .command) in
+    let p = profileOf (given k .asks) in
     let filled = g .fills-bytes .0 in
     let number : handedBack k .answer .number ≡ verdict v call =
     ap (λ (o : Outcome). o .number) (g .answers) ∙ answered-number (questions v call) (effect v call .values) in
@@ -66,7 +65,7 @@ told k v course g =
     }
 
 -- The call as the program makes it.
-pub record Stepped (c : Config) (k : ServeCall) (v : Drive) : Type 0 where
+pub record Stepped (c : Config) (k : ProgramCall) (v : Drive) : Type 0 where
   pub leaves : afterCall c k v ≡ step (callOf k) v
   pub replied : Replies v (callOf k) (replyOf v k)
   pub words : handedBack k .words ≡ overwritten 0 (replyOf v k .words) (given k .words)
@@ -74,13 +73,13 @@ pub record Stepped (c : Config) (k : ServeCall) (v : Drive) : Type 0 where
   pub other-store-kept : isOwnStore c k ≡ false → handedBack k .drive .store ≡ given k .store
 
 -- Lent the run's own store, ..
-own-step : (k : ServeCall)
+own-step : (k : ProgramCall)
     → let v = drive (given k .table) (given k .store) in
     Course v
     → isOwnStore (v .table .config) k ≡ true
     → Stepped (v .table .config) k v
 own-step k course own =
-    let s = serve-contract k in
+    let s = call-contract k in
     let t =
     told k (drive (given k .table) (given k .store)) course
     (record { answers = s .answers; fills-words = s .fills-words; fills-bytes = s .fills-bytes }) in
@@ -93,13 +92,13 @@ own-step k course own =
     }
 
 -- .. or another.
-other-step : (k : ServeCall) (store : List ℕ)
+other-step : (k : ProgramCall) (store : List ℕ)
     → let v = drive (given k .table) store in
     Course v
     → isOwnStore (v .table .config) k ≡ false
     → Stepped (v .table .config) k v
 other-step k store course other =
-    let s = serve-contract k in
+    let s = call-contract k in
     let g = other-store (given k .table) store (given k .store) (callOf k) other in
     let t =
     told k (drive (given k .table) store) course
@@ -118,7 +117,7 @@ other-step k store course other =
           ∙ other-store (given k .table) (given k .store) (given k .store) (callOf k) other .keeps;
     }
 
-pub stepped : (k : ServeCall) (v : Drive) → Course v
+pub stepped : (k : ProgramCall) (v : Drive) → Course v
     → given k .table ≡ v .table
     → (isOwnStore (v .table .config) k ≡ true → given k .store ≡ v .store)
     → Stepped (v .table .config) k v

@@ -3,3 +3,4 @@ pub mod Calls
 pub mod Runs
 pub mod Example
 pub mod Claim
+pub mod Retention

@@ -17,7 +17,7 @@ use Rattle.model.specs.declared.table.Table.{Table}
 use Rattle.rules.proofs.Questions.{after, before, yes-in}
 use Rattle.rules.specs.Calls.{Call, _asking_, lending}
 use Rattle.rules.specs.Drive.{size}
-use Rattle.rules.specs.Questions.{questions}
+use Rattle.rules.specs.Effects.{questions}
 use Rattle.survey.specs.Sight.{Sees, SeesBlock}
 use Rattle.survey.specs.declared.sight.Sight.{Sight}
 use Rattle.tables.proofs.Answering.{second-part}

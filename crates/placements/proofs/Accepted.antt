@@ -36,8 +36,8 @@ use Rattle.rules.proofs.Questions.{after, yes-in}
 use Rattle.rules.specs.Blocks.{userAddresses, writtenByPlacement}
 use Rattle.rules.specs.Calls.{calling}
 use Rattle.rules.specs.Drive.{blockAt, clearBlock, clearDomain, domainAt, isFree, isFreeState, isPlacedState, openBlock, size, withBlock}
-use Rattle.rules.specs.Effects.{effect}
-use Rattle.rules.specs.Questions.{isCount, questions, userAddressesFit}
+use Rattle.rules.specs.Effects.{effect, questions}
+use Rattle.rules.specs.Questions.{isCount, userAddressesFit}
 use Rattle.rules.specs.Soundness.{sound}
 use Rattle.survey.proofs.Seeing.{limits-seen}
 use Rattle.survey.specs.Sight.{Sees, SeesChoice, SeesPlacement, foundIn}

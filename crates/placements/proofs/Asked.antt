@@ -22,7 +22,8 @@ use Rattle.rules.proofs.Questions.{after}
 use Rattle.rules.specs.Blocks.{newBlocks, roomIn}
 use Rattle.rules.specs.Calls.{lending}
 use Rattle.rules.specs.Drive.{openBlock, openCount}
-use Rattle.rules.specs.Questions.{mayOpenFor, questions}
+use Rattle.rules.specs.Effects.{questions}
+use Rattle.rules.specs.Questions.{mayOpenFor}
 use Rattle.survey.specs.Sight.{Sees, SeesPlacement, foundIn}
 use Rattle.survey.specs.declared.sight.Found.{Found}
 use Rattle.survey.specs.declared.sight.Found.the-variants as found

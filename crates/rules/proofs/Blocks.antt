@@ -19,7 +19,7 @@ Choice t size none = (m : ℕ) → m < size → isFree (blockAt t m) ≡ false
 Choice t size (some n) = Chosen t size n
 
 -- What holds below n and at n holds below n + 1.
-below-next : (P : ℕ → Type 0) (n : ℕ) → ((i : ℕ) → i < n → P i) → P n → (i : ℕ) → i < suc n → P i
+pub below-next : (P : ℕ → Type 0) (n : ℕ) → ((i : ℕ) → i < n → P i) → P n → (i : ℕ) → i < suc n → P i
 below-next P n below at i l = by-eq i n (λ e. rw e at) (λ e. below i (omega arith))
 
 -- Block n is not Free, or it is and has not fewer erases: the choice stays.

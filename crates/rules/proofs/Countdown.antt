@@ -8,7 +8,7 @@ use native.Mathlib.Omega.{arith}
 use lib.Dec.{eqb, leb, ltb}
 use lib.ListN.{drop, length, take}
 use borrow.Author.Tests.{eqb-true, le-leb, leb-false, leb-true, lt-leb, ltb-false, ltb-true}
-use Rattle.geometry.proofs.Laws.Shape.{by-test}
+use Rattle.geometry.proofs.Laws.Shape.{both, by-test}
 use Rattle.geometry.specs.Shape.{withinLimits}
 use Rattle.geometry.specs.declared.shape.Adus.{Adus}
 use Rattle.geometry.specs.declared.shape.Config.{Config}
@@ -23,19 +23,21 @@ use Rattle.model.specs.declared.command.Command.the-variants.{ChangeCapacity, C
 use Rattle.model.specs.declared.command.Command.the-variants.{WriteByBlock, WriteByPlacement}
 use Rattle.model.specs.declared.table.Table.{Table}
 use Rattle.rules.specs.Blocks.{anyBlock, chosenBlock, erasedBlock, newBlocks, openedFor, pulsed, room, userAddresses, writtenByPlacement, writtenFirst, writtenInto, writtenNext, writtenOnwards}
-use Rattle.rules.specs.Calls.{Call, _asking_, profile}
+use Rattle.rules.specs.Calls.{Asked, Call, Lengths, _asking_, _for_, append, command, latest, profile, profileOf}
 use Rattle.rules.specs.Countdown.{closesByPulse, elapsed, elapsedFrom, pulseOf}
 use Rattle.rules.specs.Counting.{implies}
 use Rattle.rules.specs.Domains.{deletedDomain, freedIfHeld}
 use Rattle.rules.specs.Drive.{Drive, blockAt, heldBy, isClosed, isClosedState, isFree, isFreeState, isOpen, isOpenState, newCapacity, openBlock, size, withBlock}
-use Rattle.rules.specs.Effects.{accepted, effect, erasing, step, verdict}
-use Rattle.rules.specs.Questions.{isErasedAgain, isHeld, mayErase, questions}
+use Rattle.rules.specs.Effects.{accepted, effect, erasing, questions, step, verdict}
+use Rattle.rules.specs.Questions.{isErasedAgain, isHeld, mayErase}
+use Rattle.rules.specs.Recorder.{appended, freedIfAny}
 use Rattle.rules.specs.Runs.{begun, reference, run}
 use Rattle.rules.specs.Start.{Started}
 use Rattle.rules.proofs.Blocks.{Choice, choice}
 use Rattle.rules.proofs.Counting.{clash}
 use Rattle.rules.proofs.Drive.{block-changed, block-changed-below, block-set}
 use Rattle.rules.proofs.Questions.{answered-yes}
+use Rattle.rules.proofs.Recorder.{by-room}
 use Rattle.rules.proofs.Runs.{pulse-open}
 use Rattle.rules.proofs.Start.{clear-block, start-accepted}
 
@@ -394,12 +396,45 @@ effect-moved v call (Page d n) e = same-blocks (v .table) (v .table) refl refl
 effect-moved v call (Listing d which) e = same-blocks (v .table) (v .table) refl refl
 effect-moved v call (Pulse seconds) e = pulse-moved (v .table) seconds
 
+-- The recorder frees a Closed block first, if it has to.
+freed-then : (period : ℕ) (b c : Block) → isClosed b ≡ true → Writes period (freed b) c → Moves period 0 b c
+freed-then period b c shut w = record {
+  kept = λ e f. clash (isOpen b) e (closed-not-open (b .state) shut);
+  kept-erases = λ e f. clash (isOpen b) e (closed-not-open (b .state) shut);
+  fresh = λ e f. w .moves .fresh refl f;
+  erased = λ e f. w .moves .erased refl f;
+}
+
+room-moved : (v : Drive) (lent : Lengths) (d sample : ℕ) → Moved 0 (v .table) (appended d sample v lent .drive .table)
+room-moved v lent d sample =
+    let users = userAddresses sample 1 in
+    let t = v .table in
+    by-room d sample v lent (λ w. Moved 0 t (writtenByPlacement d 0 users w .drive .table))
+    (write-moved (placement-along d 0 users v))
+    (λ n o.
+    let freed = freedIfAny (some n) v in
+    let a = placement-along d 0 users freed in
+    let shut = both (heldBy d (blockAt t n)) (isClosed (blockAt t n)) (o .closed) .1 in
+    all-moved t _ (a .config) (λ m.
+    block-set (λ b. Writes (t .config .period) b (blockAt (writtenByPlacement d 0 users freed .drive .table) m)
+    → Moves (t .config .period) 0 (blockAt t m) (blockAt (writtenByPlacement d 0 users freed .drive .table) m)) t n m _
+    (λ w. w .moves)
+    (λ e. rw e (freed-then (t .config .period) (blockAt t n) _ shut))
+    (a .each m)))
+
+moved-for : (v : Drive) (k : Call) (x : Asked) → verdict v (k for x) ≡ 0
+    → Moved (profileOf x .seconds) (v .table) (effect v (k for x) .drive .table)
+unfolding effect
+moved-for v k (command c) e = effect-moved v k c e
+moved-for v k (append d sample) e = room-moved v (k .lent) d sample
+moved-for v k (latest d count) e = same-blocks (v .table) (v .table) refl refl
+
 -- So does a call, with the seconds of an accepted pulse.
 moved : (k : Call) (v : Drive) → Moved (pulseOf v k) (v .table) (step k v .table)
 unfolding step
 moved k v =
     by-test (accepted v k)
-    (λ e. rw e (effect-moved v k (k .command) (eqb-true (verdict v k) 0 e)))
+    (λ e. rw e (moved-for v k (k .asks) (eqb-true (verdict v k) 0 e)))
     (λ e. rw e (same-blocks (v .table) (v .table) refl refl))
 
 -- A block of the drive that is open before a call and after it was not opened by it: it has the same serial and holder, and its

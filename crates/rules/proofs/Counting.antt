@@ -72,6 +72,10 @@ sum-at (suc n) f g k l h =
     (λ e. rw e (omega (arith, sum-same n f g (λ i m. h i (omega arith) (λ same. omega arith)))))
     (λ e. omega (arith, sum-at n f g k (omega arith) (λ i m. h i (omega arith)), h n (omega arith) (λ same. e (sym same))))
 
+-- A sum with one term that is not 0.
+pub sum-term-alone : (n : ℕ) (f : ℕ → ℕ) (k : ℕ) → k < n → ((i : ℕ) → i < n → ¬ (i ≡ k) → f i ≡ 0) → sumTo f n ≡ f k
+sum-term-alone n f k l others = omega (arith, sum-at n f (λ i. 0) k l others, sum-zero n (λ i. 0) (λ i m. refl))
+
 -- A sum that is not 0 has a term that is not 0.
 pub sum-some : (n : ℕ) (f : ℕ → ℕ) → 0 < sumTo f n → (k : ℕ) × (k < n) × (0 < f k)
 unfolding sumTo

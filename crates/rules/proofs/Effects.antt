@@ -1,11 +1,11 @@
 -- A refusal leaves everything as it was, whatever the command; and every call has an answer.
-use Prim.Native.Nat.{ℕ, zero, suc, _+_, _≤_}
+use Prim.Native.Nat.{ℕ, zero, suc, _+_, _-_, _≤_}
 use mathlib.Core.Bool.{Bool, true, false}
 use mathlib.Core.List.{List, []}
 use mathlib.Core.Option.{Option, none, some}
 use mathlib.Core.Path.{_≡_, refl, sym, ap, _∙_}
 use native.Mathlib.Omega.{arith}
-use lib.ListN.{drop, length, length-append, length-take, take, take-append-drop}
+use lib.ListN.{drop, length, length-append, length-drop, length-take, take, take-append-drop}
 use borrow.Author.Tests.{eqb-true, leb-true, ne-eqb}
 use Rattle.geometry.proofs.Laws.Questions.{answered-number}
 use Rattle.geometry.proofs.Laws.Shape.{by-test}
@@ -19,13 +19,13 @@ use Rattle.model.specs.declared.command.Command.the-variants.{WriteByBlock, Wri
 use Rattle.model.specs.declared.command.Listed.the-variants as listed
 use Rattle.model.specs.declared.table.Table.{Table}
 use Rattle.rules.specs.Blocks.{chosenBlock, erasedBlock, newBlocks, openedFor, room, userAddress, userAddresses, writtenByPlacement, writtenFirst, writtenInto, writtenNext, writtenOnwards}
-use Rattle.rules.specs.Calls.{BytesDue, Call, _asking_, listBytes, noBytes, pageBytes, profile}
+use Rattle.rules.specs.Calls.{Asked, BytesDue, Call, _asking_, _for_, append, command, latest, listBytes, noBytes, pageBytes, profile, profileOf}
 use Rattle.rules.specs.Claims.{Unchanged}
 use Rattle.rules.specs.Counting.{numbersTo}
 use Rattle.rules.specs.Drive.{Drive, blockAt, newCapacity, openBlock, openOf, overwritten, size}
-use Rattle.rules.specs.Effects.{BytesFilled, Fills, FillsIf, Served, Serves, accepted, answerTo, byteCount, effect, erasing, step, verdict, wordsFilled}
+use Rattle.rules.specs.Effects.{BytesFilled, Fills, FillsIf, Served, Serves, accepted, answerTo, byteCount, effect, erasing, questions, step, verdict, wordsFilled}
 use Rattle.rules.specs.LogPages.{closedList, listLength, listOf, openMark, page}
-use Rattle.rules.specs.Questions.{questions}
+use Rattle.rules.specs.Recorder.{kept, lastOf, afterFreeing}
 use Rattle.rules.proofs.Counting.{length-row, numbers-once}
 use Rattle.rules.proofs.Drive.{overwritten-nothing}
 use Rattle.rules.proofs.LogPages.{closed-list-length, open-list-length, page-length}
@@ -68,7 +68,7 @@ fill-if false due t = ([], refl)
 
 pub always-answered : (v : Drive) (k : Call) (words bytes : List ℕ) → (r : Served) × Serves v k words bytes r
 always-answered v k words bytes =
-    let filled = fill-if (accepted v k) (profile (k .command) .bytes) (v .table) in (
+    let filled = fill-if (accepted v k) (profileOf (k .asks) .bytes) (v .table) in (
       record {
         answer = answerTo v k;
         drive = step k v;
@@ -122,6 +122,10 @@ placement-length d p users v =
       split-length (room t d p) users,
     ))
 
+-- The last n of a list are at most n.
+pub last-length : (n : ℕ) (xs : List ℕ) → length (lastOf n xs) ≤ n
+last-length n xs = omega (arith, length-drop (length xs - n) xs)
+
 erasing-words : (d : ℕ) (found : Option ℕ) (v : Drive) → length (erasing d found v .words) ≤ 0
 erasing-words d none v = omega arith
 erasing-words d (some n) v = omega arith
@@ -161,11 +165,29 @@ effect-words v k (Page d n) e = omega arith
 effect-words v k (Listing d which) e = omega arith
 effect-words v k (Pulse seconds) e = omega arith
 
+-- So it is of the recorder's calls.
+words-for : (v : Drive) (k : Call) (x : Asked) → verdict v (k for x) ≡ 0 → length (effect v (k for x) .words) ≤ k .lent .words
+unfolding effect questions
+words-for v k (command c) e = effect-words v k c e
+words-for v k (append d sample) e =
+    omega (
+      arith,
+      placement-length d 0 (userAddresses sample 1) (afterFreeing d sample v (k .lent)),
+      length-row (userAddress sample) 1,
+      leb-true 1 (k .lent .words) (answered-yes v (k for append d sample) 7 e),
+    )
+words-for v k (latest d count) e =
+    omega (
+      arith,
+      last-length (count .0) (kept v d),
+      leb-true (count .0) (k .lent .words) (answered-yes v (k for latest d count) 7 e),
+    )
+
 pub words-fit : (v : Drive) (k : Call) → length (wordsFilled v k) ≤ k .lent .words
 unfolding wordsFilled
 words-fit v k =
     by-test (accepted v k)
-    (λ e. rw e (effect-words v k (k .command) (eqb-true (verdict v k) 0 e)))
+    (λ e. rw e (words-for v k (k .asks) (eqb-true (verdict v k) 0 e)))
     (λ e. rw e (omega arith))
 
 -- As many bytes are filled as are due, ..
@@ -192,10 +214,16 @@ bytes-asked v k (Listing d which) e =
     leb-true (listLength (v .table) d which) (k .lent .bytes) (answered-yes v (k asking Listing d which) 7 e)
 bytes-asked v k (Pulse seconds) e = omega arith
 
+bytes-asked-for : (v : Drive) (k : Call) (x : Asked) → verdict v (k for x) ≡ 0
+    → byteCount (v .table) (profileOf x .bytes) ≤ k .lent .bytes
+bytes-asked-for v k (command c) e = bytes-asked v k c e
+bytes-asked-for v k (append d sample) e = omega arith
+bytes-asked-for v k (latest d count) e = omega arith
+
 bytes-if : (b : Bool) (v : Drive) (k : Call) (bytes : List ℕ) → (b ≡ true → verdict v k ≡ 0)
-    → FillsIf b (profile (k .command) .bytes) (v .table) bytes → length bytes ≤ k .lent .bytes
+    → FillsIf b (profileOf (k .asks) .bytes) (v .table) bytes → length bytes ≤ k .lent .bytes
 bytes-if true v k bytes h f =
-    omega (arith, bytes-counted (v .table) (profile (k .command) .bytes) bytes f, bytes-asked v k (k .command) (h refl))
+    omega (arith, bytes-counted (v .table) (profileOf (k .asks) .bytes) bytes f, bytes-asked-for v k (k .asks) (h refl))
 bytes-if false v k bytes h f = rw f (omega arith)
 
 pub bytes-fit : (v : Drive) (k : Call) (bytes : List ℕ) → BytesFilled v k bytes → length bytes ≤ k .lent .bytes

@@ -2,7 +2,7 @@
 use mathlib.Core.Bool.{true}
 use mathlib.Core.List.{List, [], _∷_}
 use mathlib.Core.Path.{_≡_, refl, ap}
-use Rattle.rules.specs.Calls.{Call, profile}
+use Rattle.rules.specs.Calls.{Call, profileOf}
 use Rattle.rules.specs.Drive.{Drive}
 use Rattle.rules.specs.Effects.{accepted, answerTo, step, wordsFilled}
 use Rattle.rules.specs.Example.{NotEmpty, blocksOf, busy, busyHalf, busyNumbers, numbersTold, quiet, quietHalf, quietNumbers, sameInputs, sevens, zeros}
@@ -75,7 +75,7 @@ unfolding Replied
 exchanged [] v = ([], refl, tt)
 exchanged (k ∷ ks) v =
     let rest = exchanged ks (step k v) in
-    let filled = fill-if (accepted v k) (profile (k .command) .bytes) (v .table) in
+    let filled = fill-if (accepted v k) (profileOf (k .asks) .bytes) (v .table) in
     let reply : Reply = record { answer = answerTo v k; words = wordsFilled v k; bytes = filled .0 } in (
       record { call = k; reply = reply } ∷ rest .0,
       ap (λ (ls : List Call). k ∷ ls) (rest .1),

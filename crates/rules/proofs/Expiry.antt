@@ -18,7 +18,7 @@ use Rattle.model.specs.declared.command.Command.{Command}
 use Rattle.model.specs.declared.command.Command.the-variants.{ChangeCapacity, Close, Create, Delete, Erase, Free, List as Listing, Page, Pulse, Read}
 use Rattle.model.specs.declared.command.Command.the-variants.{WriteByBlock, WriteByPlacement}
 use Rattle.model.specs.declared.table.Table.{Table}
-use Rattle.rules.specs.Calls.{Call, _asking_, isPulse, ownDomain}
+use Rattle.rules.specs.Calls.{Asked, Call, _asking_, _for_, append, command, isPulse, latest, ownDomain}
 use Rattle.rules.specs.Countdown.{Expires, pulseOf}
 use Rattle.rules.specs.Drive.{Drive, blockAt, domainAt, isOpen, isOpenState, size}
 use Rattle.rules.specs.Effects.{accepted, step, verdict}
@@ -56,7 +56,7 @@ opens-newly : (k : Call) (v : Drive) (n : ℕ) → Course v → n < size (v .tab
     → isOpen (blockAt (step k v .table) n) ≡ true
     → domainAt (v .table) (blockAt (step k v .table) n .holder) .last < blockAt (step k v .table) n .serial
 opens-newly k v n course inside shut opened =
-    let own = ownDomain (k .command) in
+    let own = ownDomain (k .asks) in
     let last = domainAt (v .table) own .last in
     let b = blockAt (step k v .table) n in
     let some = open-left (step k v) (course-step k v course) n (size-kept k v n course inside) opened in
@@ -87,7 +87,7 @@ counted-shut (state.Open way) seconds b same e f =
     (λ l. ltb-false seconds (b .left) l)
 
 pulse-shut : (c : Command) (k : Call) (v : Drive) (n : ℕ) → n < size (v .table)
-    → isPulse c ≡ true
+    → isPulse (command c) ≡ true
     → isOpen (blockAt (v .table) n) ≡ true
     → isOpen (blockAt (step (k asking c) v .table) n) ≡ false
     → blockAt (v .table) n .left ≤ pulseOf v (k asking c)
@@ -111,6 +111,15 @@ pulse-shut (Pulse seconds) k v n inside e opened shut =
     rw yes-it (counted-shut (b .state) seconds b refl opened (ap (λ (x : Block). isOpen x) (sym is) ∙ shut)))
     (λ refused. absurd (true≢false (sym opened ∙ (rw refused at shut))))
 
+pulse-shut-for : (x : Asked) (k : Call) (v : Drive) (n : ℕ) → n < size (v .table)
+    → isPulse x ≡ true
+    → isOpen (blockAt (v .table) n) ≡ true
+    → isOpen (blockAt (step (k for x) v .table) n) ≡ false
+    → blockAt (v .table) n .left ≤ pulseOf v (k for x)
+pulse-shut-for (command c) k v n inside e opened shut = pulse-shut c k v n inside e opened shut
+pulse-shut-for (append d sample) k v n inside e opened shut = absurd (true≢false (sym e))
+pulse-shut-for (latest d count) k v n inside e opened shut = absurd (true≢false (sym e))
+
 call-expires : (k : Call) (v : Drive) (n : ℕ) → Course v → n < size (v .table) → Expires n k v (step k v)
 call-expires k v n course inside = record {
   opens-by-erase = λ shut opened. (
@@ -118,7 +127,7 @@ call-expires k v n course inside = record {
     newly-erased k v n inside shut opened,
     opens-newly k v n course inside shut opened,
   );
-  closes-in-time = λ pulse opened shut. pulse-shut (k .command) k v n inside pulse opened shut;
+  closes-in-time = λ pulse opened shut. pulse-shut-for (k .asks) k v n inside pulse opened shut;
 }
 
 -- Where nothing is called nothing opens or closes.

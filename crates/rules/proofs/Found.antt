@@ -29,8 +29,8 @@ use Rattle.rules.specs.Calls.{Call, _asking_}
 use Rattle.rules.specs.Claims.{Found}
 use Rattle.rules.specs.Counting.{allTo}
 use Rattle.rules.specs.Drive.{Drive, blockAdus, blockAt, heldBy, isErasedState, isFreeState, isOpenFor, isPlacedState, openBlock, openBlockTo, size}
-use Rattle.rules.specs.Effects.{answerTo, effect, erasing, step, verdict, wordsFilled}
-use Rattle.rules.specs.Questions.{isCount, questions, storeFits}
+use Rattle.rules.specs.Effects.{answerTo, effect, erasing, questions, step, verdict, wordsFilled}
+use Rattle.rules.specs.Questions.{isCount, storeFits}
 use Rattle.rules.proofs.Blocks.{Choice, choice}
 use Rattle.rules.proofs.Counting.{all-each, length-row, the-first}
 use Rattle.rules.proofs.Effects.{written-length}

@@ -17,6 +17,7 @@ pub mod Placement
 pub mod Fit
 pub mod Erasing
 pub mod Asked
+pub mod Recorder
 pub mod Domains
 pub mod Sweeps
 pub mod Calls

@@ -23,9 +23,8 @@ use Rattle.rules.specs.Calls.{Call, _asking_, ownDomain}
 use Rattle.rules.specs.Claims.{Chosen, ClosedList, Found, Gone, Layout, Reached, Unchanged, rising}
 use Rattle.rules.specs.Domains.{changedDomain}
 use Rattle.rules.specs.Drive.{Drive, blockAt, capacity, domainAt, heldCount, isFree, isOpen, size}
-use Rattle.rules.specs.Effects.{BytesFilled, Served, Serves, answerTo, step, verdict, wordsFilled}
+use Rattle.rules.specs.Effects.{BytesFilled, Served, Serves, answerTo, questions, step, verdict, wordsFilled}
 use Rattle.rules.specs.LogPages.{OpenList, closedList, listLength, page, pageFields}
-use Rattle.rules.specs.Questions.{questions}
 use Rattle.rules.specs.Soundness.{sound}
 use Rattle.rules.specs.Start.{emptyTable, started, tableOfZeros}
 use Rattle.rules.proofs.Blocks as blocks
@@ -51,7 +50,7 @@ start-refused c outside = start.start-refused c outside
 pub zeros-unsound : sound tableOfZeros ≡ false
 zeros-unsound = start.zeros-unsound
 
--- Each command's questions have rising numbers from 2 to 16, which is document 01's order.
+-- Each call's questions have rising numbers from 2 to 16, which is document 01's order.
 pub questions-in-order : (v : Drive) (k : Call) → rising 1 (questions v k) ≡ true
 questions-in-order v k = asked.in-order v k
 
@@ -100,7 +99,7 @@ none-chosen t nothing = subst (blocks.Choice t (size t)) nothing (blocks.choice 
 -- Each block goes from state to state only by the changes of a block's record; it is opened for the command's own domain alone,
 -- with a new serial of that and for T seconds.
 pub only-by-changes : (v : Drive) (k : Call) (n : ℕ)
-    → let own = ownDomain (k .command) in
+    → let own = ownDomain (k .asks) in
     Reached own (domainAt (v .table) own .last) (v .table .config .period)
     (blockAt (v .table) n)
     (blockAt (step k v .table) n)
@@ -109,18 +108,18 @@ only-by-changes v k n = runs.follows v k .reached n
 -- A block without a new serial of the command's own domain has no more seconds left than before: no write, no Close and no
 -- refused command winds the countdown up again.
 pub never-rewound : (v : Drive) (k : Call) (n : ℕ)
-    → let own = ownDomain (k .command) in
+    → let own = ownDomain (k .asks) in
     hasNewSerial own (domainAt (v .table) own .last) (blockAt (step k v .table) n) ≡ false
     → blockAt (step k v .table) n .left ≤ blockAt (v .table) n .left
 never-rewound v k n old =
     let by = only-by-changes v k n in
     rw (by .1)
-    (old-not-rewound (ownDomain (k .command)) _ _ (by .0) (blockAt (v .table) n) (by .2) (rw (by .1) at old))
+    (old-not-rewound (ownDomain (k .asks)) _ _ (by .0) (blockAt (v .table) n) (by .2) (rw (by .1) at old))
 
 -- A command leaves every other domain's record alone: its guarantee, its quota, its limits and its last serial.
 pub neighbours-unchanged : (v : Drive) (k : Call) (d : ℕ)
     → 0 < d
-    → ¬ (ownDomain (k .command) ≡ d)
+    → ¬ (ownDomain (k .asks) ≡ d)
     → domainAt (step k v .table) d ≡ domainAt (v .table) d
 neighbours-unchanged v k d positive other = runs.follows v k .others d positive other
 

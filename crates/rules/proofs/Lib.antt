@@ -8,6 +8,7 @@ pub mod Blocks
 pub mod Writes
 pub mod Found
 pub mod LogPages
+pub mod Recorder
 pub mod Questions
 pub mod Effects
 pub mod Runs
@@ -16,7 +17,9 @@ pub mod ProvedTable
 pub mod WrongTurns
 pub mod Kept
 pub mod Noninterference
+pub mod Appending
 pub mod Countdown
+pub mod Retention
 pub mod Example
 pub mod Told
 pub mod Laws

@@ -11,11 +11,10 @@ use Rattle.geometry.specs.Questions.{Question, firstNo}
 use Rattle.model.specs.declared.command.Command.{Command}
 use Rattle.model.specs.declared.command.Command.the-variants.{ChangeCapacity, Close, Create, Delete, Erase, Free, List as Listing, Page, Pulse, Read}
 use Rattle.model.specs.declared.command.Command.the-variants.{WriteByBlock, WriteByPlacement}
-use Rattle.rules.specs.Calls.{Call, _asking_}
+use Rattle.rules.specs.Calls.{Asked, Call, _asking_, _for_, append, command, latest}
 use Rattle.rules.specs.Claims.{rising}
 use Rattle.rules.specs.Drive.{Drive}
-use Rattle.rules.specs.Effects.{verdict}
-use Rattle.rules.specs.Questions.{questions}
+use Rattle.rules.specs.Effects.{questions, verdict}
 
 -- Soundness is the first question of every command, and the numbers of the others rise from there.
 each-in-order : (v : Drive) (k : Call) (c : Command) → rising 1 (questions v (k asking c)) ≡ true
@@ -33,8 +32,14 @@ each-in-order v k (Page d n) = refl
 each-in-order v k (Listing d which) = refl
 each-in-order v k (Pulse seconds) = refl
 
+in-order-for : (v : Drive) (k : Call) (x : Asked) → rising 1 (questions v (k for x)) ≡ true
+unfolding questions rising
+in-order-for v k (command c) = each-in-order v k c
+in-order-for v k (append d sample) = refl
+in-order-for v k (latest d count) = refl
+
 pub in-order : (v : Drive) (k : Call) → rising 1 (questions v k) ≡ true
-in-order v k = each-in-order v k (k .command)
+in-order v k = in-order-for v k (k .asks)
 
 -- None has the number 0.
 each-positive : (v : Drive) (k : Call) (c : Command) → positive (questions v (k asking c)) ≡ true
@@ -52,8 +57,14 @@ each-positive v k (Page d n) = refl
 each-positive v k (Listing d which) = refl
 each-positive v k (Pulse seconds) = refl
 
+positive-for : (v : Drive) (k : Call) (x : Asked) → positive (questions v (k for x)) ≡ true
+unfolding questions positive
+positive-for v k (command c) = each-positive v k c
+positive-for v k (append d sample) = refl
+positive-for v k (latest d count) = refl
+
 pub none-zero : (v : Drive) (k : Call) → positive (questions v k) ≡ true
-none-zero v k = each-positive v k (k .command)
+none-zero v k = positive-for v k (k .asks)
 
 -- The answer to the question with this number; yes where it is not put.
 abbrev pub answerIn : ℕ → List Question → Bool

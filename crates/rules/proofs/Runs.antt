@@ -23,16 +23,17 @@ use Rattle.model.specs.declared.command.Command.the-variants.{WriteByBlock, Wri
 use Rattle.model.specs.declared.table.Domain.{Domain}
 use Rattle.model.specs.declared.table.Table.{Table}
 use Rattle.rules.specs.Blocks.{chosenBlock, erasedBlock, newBlocks, nextSerial, openedFor, room, userAddresses, withLast, writtenByPlacement, writtenFirst, writtenInto, writtenNext, writtenOnwards}
-use Rattle.rules.specs.Calls.{Call, _asking_, ownDomain}
+use Rattle.rules.specs.Calls.{Asked, Call, Lengths, _asking_, _for_, append, command, latest, ownDomain}
 use Rattle.rules.specs.Claims.{Gone, Reached}
 use Rattle.rules.specs.Domains.{deletedDomain}
 use Rattle.rules.specs.Drive.{Drive, blockAt, capacity, domainAt, heldBy, isOpen, isOpenState, newCapacity, openBlock, size, withBlock, withDomain, withEachBlock}
-use Rattle.rules.specs.Effects.{accepted, effect, erasing, step, verdict}
-use Rattle.rules.specs.Questions.{questions}
+use Rattle.rules.specs.Effects.{accepted, effect, erasing, questions, step, verdict}
+use Rattle.rules.specs.Recorder.{appended, freedIfAny}
 use Rattle.rules.proofs.Domains.{deleted-clear, deleted-holds-nothing, deleted-others}
 use Rattle.rules.proofs.Drive.{block-changed, block-changed-below, block-set, domain-other, domain-set}
 use Rattle.rules.proofs.Effects.{accepted-drive}
 use Rattle.rules.proofs.Questions.{answered-yes}
+use Rattle.rules.proofs.Recorder.{by-room}
 
 several : (xs ys : List Change) (b : Block) → changedBy (xs ++ ys) b ≡ changedBy ys (changedBy xs b)
 unfolding changedBy
@@ -176,13 +177,13 @@ positive : (d : ℕ) → isDomainId d ≡ true → 0 < d
 positive d e = is-between 1 16 d e .least
 
 -- What a command leaves follows from its own domain's last serial and the period, as they are when it begins.
-abbrev FollowsFrom : Command → Table → Table → Type 0
-FollowsFrom c t u = Follows (ownDomain c) (domainAt t (ownDomain c) .last) (t .config .period) t u
+abbrev FollowsFrom : Asked → Table → Table → Type 0
+FollowsFrom x t u = Follows (ownDomain x) (domainAt t (ownDomain x) .last) (t .config .period) t u
 
 begins : (t : Table) (d : ℕ) → OnTheWay d (domainAt t d .last) (t .config .period) t
 begins t d = record { serial = omega arith; seconds = refl }
 
-effect-follows : (v : Drive) (call : Call) (c : Command) → verdict v (call asking c) ≡ 0 → FollowsFrom c (v .table) (effect v (call asking c) .drive .table)
+effect-follows : (v : Drive) (call : Call) (c : Command) → verdict v (call asking c) ≡ 0 → FollowsFrom (command c) (v .table) (effect v (call asking c) .drive .table)
 unfolding questions effect
 effect-follows v call (Create d guarantee quota placements limit) e =
     domain d _ _ (v .table) _ (positive d (answered-yes v (call asking Create d guarantee quota placements limit) 4 e))
@@ -203,12 +204,30 @@ effect-follows v call (Page d n) e = same d _ _ (v .table)
 effect-follows v call (Listing d which) e = same d _ _ (v .table)
 effect-follows v call (Pulse seconds) e = each-block 0 _ _ (v .table) _ (λ b. by-one 0 _ _ (counting seconds) b refl)
 
-pub follows : (v : Drive) (k : Call) → FollowsFrom (k .command) (v .table) (step k v .table)
+-- The recorder frees a block and writes, or writes alone.
+room-follows : (v : Drive) (lent : Lengths) (d sample : ℕ) → 0 < d
+    → Follows d (domainAt (v .table) d .last) (v .table .config .period) (v .table) (appended d sample v lent .drive .table)
+room-follows v lent d sample low =
+    by-room d sample v lent
+    (λ w. Follows d (domainAt (v .table) d .last) (v .table .config .period) (v .table) (writtenByPlacement d 0 (userAddresses sample 1) w .drive .table))
+    (placement-follows d _ _ 0 (userAddresses sample 1) v low (begins (v .table) d))
+    (λ n o.
+    let freed = freedIfAny (some n) v in
+    then d _ _ (block d _ _ (v .table) n freeing refl)
+    (placement-follows d _ _ 0 (userAddresses sample 1) freed low (record { serial = omega arith; seconds = refl })))
+
+follows-for : (v : Drive) (k : Call) (x : Asked) → verdict v (k for x) ≡ 0 → FollowsFrom x (v .table) (effect v (k for x) .drive .table)
+unfolding questions effect
+follows-for v k (command c) e = effect-follows v k c e
+follows-for v k (append d sample) e = room-follows v (k .lent) d sample (positive d (answered-yes v (k for append d sample) 4 e))
+follows-for v k (latest d count) e = same d _ _ (v .table)
+
+pub follows : (v : Drive) (k : Call) → FollowsFrom (k .asks) (v .table) (step k v .table)
 unfolding step
 follows v k =
     by-test (accepted v k)
-    (λ e. rw e (effect-follows v k (k .command) (eqb-true (verdict v k) 0 e)))
-    (λ e. rw e (same (ownDomain (k .command)) _ _ (v .table)))
+    (λ e. rw e (follows-for v k (k .asks) (eqb-true (verdict v k) 0 e)))
+    (λ e. rw e (same (ownDomain (k .asks)) _ _ (v .table)))
 
 -- ---- What Pulse and Delete leave of the blocks
 

@@ -1,40 +1,58 @@
--- A call, and what has to be known of each kind of command beside its own questions and its effect.
+-- A call, and what has to be known of each kind of call beside its own questions and its effect.
 use Prim.Native.Nat.{ℕ}
 use mathlib.Core.Bool.{Bool, true, false}
 use mathlib.Core.List.{List}
 use lib.ListN.{length}
+use Rattle.geometry.specs.Shape.{adus}
 use Rattle.geometry.specs.declared.shape.Adus.{Adus}
 use Rattle.model.specs.declared.command.Command.{Command}
 use Rattle.model.specs.declared.command.Command.the-variants.{ChangeCapacity, Close, Create, Delete, Erase, Free, List as Listing, Page, Pulse, Read}
 use Rattle.model.specs.declared.command.Command.the-variants.{WriteByBlock, WriteByPlacement}
 use Rattle.model.specs.declared.command.Listed.{Listed}
 
-infixl 5 _asking_
+infixl 5 _asking_ _for_
 -- The lengths of what is lent: entries of the store, words and bytes.
 pub record Lengths : Type 0 where
   pub store : ℕ
   pub words : ℕ
   pub bytes : ℕ
 
--- A command and the lengths that are lent with it. In a run a store of S × C entries is the run's own, as the last call left it;
+-- What a call asks for: a command of the manager, or one of the recorder's two calls (02, Wish 1): append a sample to a domain, read
+-- so many of its latest ones.
+pub data Asked : Type 0 where
+  command : Command → Asked
+  append : (domain sample : ℕ) → Asked
+  latest : (domain : ℕ) → Adus → Asked
+
+-- What is asked for, and the lengths that are lent with it. In a run a store of S × C entries is the run's own, as the last call left it;
 -- one of another length may be lent instead, which question 3 refuses and a command without question 3 never touches.
 pub record Call : Type 0 where
-  pub command : Command
+  pub asks : Asked
   pub lent : Lengths
 
--- The same call with this command.
+-- The same call for something else, and with this command.
+abbrev pub _for_ : Call → Asked → Call
+k for x = record { asks = x; lent = k .lent }
+
 abbrev pub _asking_ : Call → Command → Call
-k asking c = record { command = c; lent = k .lent }
+k asking c = k for command c
 
--- A command with the lengths that it is lent: entries of the store, words and bytes.
+-- What is asked for with the lengths that it is lent: entries of the store, words and bytes.
+abbrev pub lendingFor : Asked → ℕ → ℕ → ℕ → Call
+lendingFor x store words bytes = record { asks = x; lent = record { store = store; words = words; bytes = bytes } }
+
+-- A command with these lengths.
 abbrev pub lending : Command → ℕ → ℕ → ℕ → Call
-lending c store words bytes = record { command = c; lent = record { store = store; words = words; bytes = bytes } }
+lending c store words bytes = lendingFor (command c) store words bytes
 
--- A command with these buffers.
+-- What is asked for with these buffers; so it is of a command.
+abbrev pub callingFor : Asked → List ℕ → List ℕ → List ℕ → Call
+callingFor x store words bytes = lendingFor x (length store) (length words) (length bytes)
+
 abbrev pub calling : Command → List ℕ → List ℕ → List ℕ → Call
-calling c store words bytes = lending c (length store) (length words) (length bytes)
+calling c store words bytes = callingFor (command c) store words bytes
 
--- ---- Kinds of command
+-- ---- Kinds of call
 
 -- The domain that a command names as its own: one that exists or, for Create, one that does not yet. Pulse names none.
 pub data Own : Type 0 where
@@ -80,7 +98,7 @@ pub record Profile : Type 0 where
   pub words : WordsDue
   pub bytes : BytesDue
 
--- A kind of command in a line: own domain, whether it is asked 3, the block that it names, the seconds that pass, and what
+-- A kind of call in a line: own domain, whether it is asked 3, the block that it names, the seconds that pass, and what
 -- the values, words and bytes of its answer are.
 abbrev pub kind : Own → Bool → Named → ℕ → Values → WordsDue → BytesDue → Profile
 kind own store names seconds values words bytes = record {
@@ -107,20 +125,26 @@ profile (Page d n) = kind (existing d) false (heldBlock n) 0 counts noWords (pag
 profile (Listing d which) = kind (existing d) false unnamed 0 counts noWords (listBytes d which)
 profile (Pulse seconds) = kind nobody false unnamed seconds counts noWords noBytes
 
+-- The profile of each kind of call: a command's own, and those of the recorder's two.
+abbrev pub profileOf : Asked → Profile
+profileOf (command c) = profile c
+profileOf (append d sample) = kind (existing d) true unnamed 0 counts (addressWords (adus 1)) noBytes
+profileOf (latest d count) = kind (existing d) true unnamed 0 counts (userWords count) noBytes
+
 -- How many words success fills.
 abbrev pub wordCount : WordsDue → ℕ
 wordCount noWords = 0
 wordCount (userWords count) = count .0
 wordCount (addressWords count) = count .0
 
--- The domain that a command names as its own; 0 is no domain's ID.
+-- The domain that a call names as its own; 0 is no domain's ID.
 abbrev pub domainOf : Own → ℕ
 domainOf (existing d) = d
 domainOf (missing d) = d
 domainOf nobody = 0
 
-abbrev pub ownDomain : Command → ℕ
-ownDomain c = domainOf (profile c .own)
+abbrev pub ownDomain : Asked → ℕ
+ownDomain x = domainOf (profileOf x .own)
 
 -- Pulse concerns every domain.
 abbrev pub isNobodys : Own → Bool
@@ -128,5 +152,5 @@ isNobodys (existing d) = false
 isNobodys (missing d) = false
 isNobodys nobody = true
 
-abbrev pub isPulse : Command → Bool
-isPulse c = isNobodys (profile c .own)
+abbrev pub isPulse : Asked → Bool
+isPulse x = isNobodys (profileOf x .own)

@@ -1,7 +1,8 @@
 -- What proofs/Laws.antt and proofs/Claims.antt say, where that takes a definition of its own.
 use Prim.Native.Nat.{ℕ, _+_, _≤_, _<_}
 use mathlib.Core.Bool.{Bool, true, false, _&&_, cond}
-use mathlib.Core.List.{List, [], _∷_}
+use mathlib.Core.List.{List, [], _∷_, _++_}
+use mathlib.Core.Option.{some}
 use mathlib.Core.Path.{_≡_}
 use lib.Dec.{leb, ltb}
 use lib.ListN.{drop, getD, length, take}
@@ -14,10 +15,12 @@ use Rattle.model.specs.declared.block.Block.{Block}
 use Rattle.model.specs.declared.table.Table.{Table}
 use Rattle.rules.specs.Blocks.{stored}
 use Rattle.rules.specs.Calls.{Call}
+use Rattle.rules.specs.Counting.{sumTo}
 use Rattle.rules.specs.Domains.{covered}
 use Rattle.rules.specs.Drive.{Drive, blockAt, clearDomain, closedOf, domainAt, heldBy, heldCount, isFree, size}
-use Rattle.rules.specs.Effects.{Served}
+use Rattle.rules.specs.Effects.{Served, effect, verdict}
 use Rattle.rules.specs.LogPages.{Field, integrity, listOf, timesIn}
+use Rattle.rules.specs.Recorder.{kept, writtenIn}
 use Rattle.rules.specs.Soundness.{sound}
 
 -- Questions whose numbers rise, from above the last one to at most 16.
@@ -38,6 +41,30 @@ pub record Chosen (t : Table) (among n : ℕ) : Type 0 where
   pub free : isFree (blockAt t n) ≡ true
   pub least : (m : ℕ) → m < among → isFree (blockAt t m) ≡ true → blockAt t n .erases ≤ blockAt t m .erases
   pub lowest : (m : ℕ) → m < n → isFree (blockAt t m) ≡ true → blockAt t n .erases < blockAt t m .erases
+
+-- The domain's Closed block with the least serial, among so many.
+pub record Oldest (t : Table) (d among n : ℕ) : Type 0 where
+  pub inside : n < among
+  pub closed : closedOf d (blockAt t n) ≡ true
+  pub least : (m : ℕ) → m < among → closedOf d (blockAt t m) ≡ true → blockAt t n .serial ≤ blockAt t m .serial
+
+-- How many ADUs are written in the domain's blocks with these serials.
+abbrev pub writtenWhere : (ℕ → Bool) → Drive → ℕ → ℕ
+writtenWhere these v d =
+    let b : ℕ → Block = λ n. blockAt (v .table) n in
+    sumTo (λ n. cond (heldBy d (b n) && these (b n .serial)) (b n .written .0) 0) (size (v .table))
+
+-- The written ADUs of the domain's block n stand in what is kept, by their offsets, behind those of its blocks with lower serials.
+pub record KeptAt (v : Drive) (d n : ℕ) : Type 0 where
+  pub front : List ℕ
+  pub rest : List ℕ
+  pub stands : kept v d ≡ front ++ (writtenIn v (some n) ++ rest)
+  pub behind : length front ≡ writtenWhere (λ serial. ltb serial (blockAt (v .table) n .serial)) v d
+
+-- One call of a drive gets what another gets of another drive: the same number and, where both succeed, the same drive, values and words.
+pub record Likewise (v : Drive) (k : Call) (w : Drive) (l : Call) : Type 0 where
+  pub same-verdict : verdict v k ≡ verdict w l
+  pub same-effect : effect v k ≡ effect w l
 
 -- Each of these flash addresses holds its user address: what is stored there, one ADU long, is that.
 abbrev pub Found : Drive → List ℕ → List ℕ → Type 0

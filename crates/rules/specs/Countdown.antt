@@ -5,13 +5,13 @@ use mathlib.Core.List.{List, [], _∷_}
 use mathlib.Core.Path.{_≡_}
 use Rattle.model.specs.Blocks.{oneMoreErase}
 use Rattle.model.specs.declared.command.Command.the-variants.{Pulse}
-use Rattle.rules.specs.Calls.{Call, _asking_, isPulse, profile}
+use Rattle.rules.specs.Calls.{Call, _asking_, isPulse, profileOf}
 use Rattle.rules.specs.Drive.{Drive, blockAt, domainAt, isClosed, isOpen}
 use Rattle.rules.specs.Effects.{accepted, step}
 
 -- The seconds of a call, if it is an accepted pulse.
 abbrev pub pulseOf : Drive → Call → ℕ
-pulseOf v k = cond (accepted v k) (profile (k .command) .seconds) 0
+pulseOf v k = cond (accepted v k) (profileOf (k .asks) .seconds) 0
 
 -- The seconds of the accepted pulses since block n was opened; meant for a block that is open after the list. A call that finds the block
 -- not open sets the sum to 0.
@@ -38,7 +38,7 @@ pub record Expires (n : ℕ) (k : Call) (v w : Drive) : Type 0 where
       → (accepted v k ≡ true)
       × (blockAt (w .table) n .erases ≡ oneMoreErase (blockAt (v .table) n .erases))
       × (domainAt (v .table) (blockAt (w .table) n .holder) .last < blockAt (w .table) n .serial)
-  pub closes-in-time : isPulse (k .command) ≡ true
+  pub closes-in-time : isPulse (k .asks) ≡ true
       → isOpen (blockAt (v .table) n) ≡ true
       → isOpen (blockAt (w .table) n) ≡ false
       → blockAt (v .table) n .left ≤ pulseOf v k

@@ -5,7 +5,7 @@ use mathlib.Core.List.{List, _++_, map}
 use mathlib.Core.Option.{Option, none, some}
 use lib.Dec.{eqb}
 use lib.ListN.{drop, getD, length, set, take}
-use Rattle.geometry.specs.Shape.{adusPerBlock}
+use Rattle.geometry.specs.Shape.{adusPerBlock, stretchStart}
 use Rattle.geometry.specs.declared.shape.Adus.{Adus}
 use Rattle.geometry.specs.declared.shape.Config.{Config}
 use Rattle.model.specs.Blocks.{freeBlock}
@@ -129,6 +129,19 @@ openBlockTo t d p (suc n) =
 
 abbrev pub openBlock : Table → ℕ → ℕ → Option ℕ
 openBlock t d p = openBlockTo t d p (size t)
+
+-- The block of the domain d with this serial, looked for below n; there is one at most.
+unfoldable pub blockWithTo : Table → ℕ → ℕ → ℕ → Option ℕ
+blockWithTo t d serial zero = none
+blockWithTo t d serial (suc n) =
+    cond (heldBy d (blockAt t n) && eqb (blockAt t n .serial) serial) (some n) (blockWithTo t d serial n)
+
+abbrev pub blockWith : Table → ℕ → ℕ → Option ℕ
+blockWith t d serial = blockWithTo t d serial (size t)
+
+-- The entries of block n in the store.
+unfoldable pub entriesOf : Drive → ℕ → List ℕ
+entriesOf v n = take (capacity (v .table) n .0) (drop (stretchStart (v .table .config) n .0) (v .store))
 
 -- ---- Replacing
 

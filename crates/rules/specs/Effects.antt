@@ -1,12 +1,12 @@
 -- What each command does where every answer is yes, and what a call hands back, refused or not.
 use Prim.Native.Nat.{ℕ}
 use mathlib.Core.Bool.{Bool, true, false, cond}
-use mathlib.Core.List.{List, [], _∷_}
+use mathlib.Core.List.{List, [], _∷_, _++_}
 use mathlib.Core.Option.{Option, none, some}
 use mathlib.Core.Path.{_≡_}
 use lib.Dec.{eqb}
 use Rattle.geometry.specs.Address.{fieldsOf}
-use Rattle.geometry.specs.Questions.{Outcome, answered, firstNo}
+use Rattle.geometry.specs.Questions.{Outcome, Question, answered, firstNo}
 use Rattle.model.specs.declared.block.Way.the-variants as way
 use Rattle.model.specs.declared.command.Command.{Command}
 use Rattle.model.specs.declared.command.Command.the-variants.{ChangeCapacity, Close, Create, Delete, Erase, Free, List as Listing, Page, Pulse, Read}
@@ -14,11 +14,12 @@ use Rattle.model.specs.declared.command.Command.the-variants.{WriteByBlock, Wri
 use Rattle.model.specs.declared.command.Listed.the-variants as listed
 use Rattle.model.specs.declared.table.Table.{Table}
 use Rattle.rules.specs.Blocks.{Written, closedAt, erasedBlock, freedAt, openedFor, pulsed, stored, userAddresses, writtenByPlacement, writtenInto}
-use Rattle.rules.specs.Calls.{BytesDue, Call, listBytes, noBytes, pageBytes, profile}
+use Rattle.rules.specs.Calls.{Asked, BytesDue, Call, append, command, latest, listBytes, noBytes, pageBytes, profileOf}
 use Rattle.rules.specs.Domains.{changedDomain, createdDomain, deletedDomain}
 use Rattle.rules.specs.Drive.{Drive, blockAt, overwritten, withDomain}
 use Rattle.rules.specs.LogPages.{OpenList, closedList, listLength, page}
-use Rattle.rules.specs.Questions.{questions}
+use Rattle.rules.specs.Questions.{firstQuestions, laterQuestions}
+use Rattle.rules.specs.Recorder.{appendQuestions, appended, latestKept, latestQuestions}
 
 -- The drive afterwards, the values of the answer, and the words that are filled.
 pub record Effect : Type 0 where
@@ -59,8 +60,23 @@ effectOf (Page d n) v = giving [] v
 effectOf (Listing d which) v = giving [] v
 effectOf (Pulse seconds) v = changing [] (pulsed seconds (v .table)) v
 
+-- ---- What a call is asked and does: a command as above, the recorder's calls as 02 says (Recorder.antt)
+
+abbrev pub askedThen : Asked → Drive → Call → List Question
+askedThen (command c) v k = laterQuestions c v k
+askedThen (append d sample) v k = appendQuestions d sample v k
+askedThen (latest d count) v k = latestQuestions d count v k
+
+unfoldable pub questions : Drive → Call → List Question
+questions v k = firstQuestions v k ++ askedThen (k .asks) v k
+
+abbrev pub effectFor : Asked → Drive → Call → Effect
+effectFor (command c) v k = effectOf c v
+effectFor (append d sample) v k = writing (appended d sample v (k .lent))
+effectFor (latest d count) v k = giving (latestKept d count v) v
+
 unfoldable pub effect : Drive → Call → Effect
-effect v k = effectOf (k .command) v
+effect v k = effectFor (k .asks) v k
 
 -- The bytes that success fills; of the open list the order is left open.
 abbrev pub Fills : BytesDue → Table → List ℕ → Type 0
@@ -97,7 +113,7 @@ FillsIf true due t bytes = Fills due t bytes
 FillsIf false due t bytes = bytes ≡ []
 
 abbrev pub BytesFilled : Drive → Call → List ℕ → Type 0
-BytesFilled v k bytes = FillsIf (accepted v k) (profile (k .command) .bytes) (v .table) bytes
+BytesFilled v k bytes = FillsIf (accepted v k) (profileOf (k .asks) .bytes) (v .table) bytes
 
 -- What a call hands back: its answer, the table and the store, and what the other lent buffers then hold.
 pub record Served : Type 0 where

@@ -8,8 +8,10 @@ pub mod LogPages
 pub mod Soundness
 pub mod Calls
 pub mod Questions
+pub mod Recorder
 pub mod Effects
 pub mod Runs
+pub mod Retention
 pub mod Observation
 pub mod Noninterference
 pub mod Countdown

@@ -6,8 +6,7 @@ use mathlib.Core.List.{List, [], _∷_, map}
 use mathlib.Core.Path.{_≡_}
 use lib.Dec.{eqb}
 use Rattle.geometry.specs.Address.{isBlock}
-use Rattle.model.specs.declared.command.Command.{Command}
-use Rattle.rules.specs.Calls.{Call, Named, blockInAddress, heldBlock, heldOrFree, ownDomain, profile, unnamed}
+use Rattle.rules.specs.Calls.{Asked, Call, Named, blockInAddress, heldBlock, heldOrFree, ownDomain, profileOf, unnamed}
 use Rattle.rules.specs.Counting.{implies}
 use Rattle.rules.specs.Drive.{Drive, blockAt, domainAt, heldBy}
 use Rattle.rules.specs.Effects.{step, verdict}
@@ -20,7 +19,7 @@ use Rattle.rules.specs.Runs.{run}
 -- Demand 3 asks that A's first Create is accepted. Less is enough: while A is missing, no command of A is refused for coverage.
 abbrev pub notUncovered : ℕ → Drive → Call → Bool
 notUncovered a v k =
-    implies (eqb (ownDomain (k .command)) a && not (exists (v .table) a)) (not (eqb (verdict v k) 14))
+    implies (eqb (ownDomain (k .asks)) a && not (exists (v .table) a)) (not (eqb (verdict v k) 14))
 
 -- Guarantee and quota are equal in whole blocks ..
 abbrev pub reservesAll : ℕ → Drive → Bool
@@ -41,13 +40,13 @@ takesOwn a v (heldBlock n) = true
 takesOwn a v (heldOrFree n) = implies (isBlock (v .table .config) n) (heldBy a (blockAt (v .table) n))
 takesOwn a v (blockInAddress word) = true
 
-abbrev pub namesOwn : ℕ → Drive → Command → Bool
-namesOwn a v c = implies (eqb (ownDomain c) a) (takesOwn a v (profile c .names))
+abbrev pub namesOwn : ℕ → Drive → Asked → Bool
+namesOwn a v x = implies (eqb (ownDomain x) a) (takesOwn a v (profileOf x .names))
 
 -- All that is asked of a call, and of a list of calls. Of a neighbour's call it asks nothing: `neighbours-unasked` in proofs/Claims.antt.
 abbrev pub isAllowed : ℕ → Drive → Call → Bool
 isAllowed a v k =
-    notUncovered a v k && namesOwn a v (k .command) && reservesAll a (step k v) && staysReserved a v (step k v)
+    notUncovered a v k && namesOwn a v (k .asks) && reservesAll a (step k v) && staysReserved a v (step k v)
 
 unfoldable pub fullyReserved : ℕ → List Call → Drive → Bool
 fullyReserved a [] v = true
@@ -75,13 +74,13 @@ consIf false x xs = xs
 -- A's own commands and the pulses, the neighbours' struck out.
 unfoldable pub inputs : ℕ → List Call → Drive → List Input
 inputs a [] v = []
-inputs a (k ∷ ks) v = consIf (concerns a (k .command)) (inputOf a v k) (inputs a ks (step k v))
+inputs a (k ∷ ks) v = consIf (concerns a (k .asks)) (inputOf a v k) (inputs a ks (step k v))
 
 -- What A observes of their replies.
 unfoldable pub observations : ℕ → List Exchange → Drive → List Observation
 observations a [] v = []
 observations a (x ∷ xs) v =
-    consIf (concerns a (x .call .command)) (observed a v (x .call) (x .reply)) (observations a xs (step (x .call) v))
+    consIf (concerns a (x .call .asks)) (observed a v (x .call) (x .reply)) (observations a xs (step (x .call) v))
 
 -- In two lists, from two drives, A has observed the same and holds the same.
 pub record Indistinguishable (a : ℕ) (xs ys : List Exchange) (v w : Drive) : Type 0 where

@@ -9,18 +9,17 @@ use lib.Dec.{eqb}
 use lib.ListN.{drop, getD, length, take}
 use Rattle.geometry.specs.Address.{fieldsOf, isBlock}
 use Rattle.geometry.specs.Questions.{Outcome}
-use Rattle.geometry.specs.Shape.{stretchStart}
 use Rattle.geometry.specs.declared.shape.Adus.{Adus}
 use Rattle.geometry.specs.declared.shape.Planes.{Planes}
 use Rattle.model.specs.declared.block.State.{State}
-use Rattle.model.specs.declared.command.Command.{Command}
 use Rattle.model.specs.declared.command.Command.the-variants.{ChangeCapacity, Close, Create, Delete, Erase, Free, List as Listing, Page, Pulse, Read}
 use Rattle.model.specs.declared.command.Command.the-variants.{WriteByBlock, WriteByPlacement}
 use Rattle.model.specs.declared.command.Listed.{Listed}
-use Rattle.rules.specs.Calls.{BytesDue, Call, Lengths, Named, Values, WordsDue, isPulse, ownDomain, profile}
+use Rattle.rules.specs.Calls as calls
+use Rattle.rules.specs.Calls.{Asked, BytesDue, Call, Lengths, Named, Values, WordsDue, isPulse, ownDomain, profileOf}
 use Rattle.rules.specs.Calls.{addressWords, blockInAddress, blocksAfter, blocksBefore, counts, heldBlock, heldOrFree, listBytes}
 use Rattle.rules.specs.Calls.{noBytes, noWords, pageBytes, unnamed, userWords}
-use Rattle.rules.specs.Drive.{Drive, blockAt, capacity, heldBy, size}
+use Rattle.rules.specs.Drive.{Drive, blockAt, entriesOf, heldBy, size}
 use Rattle.rules.specs.Effects.{BytesFilled, answerTo, step, wordsFilled}
 
 -- ---- What A holds
@@ -33,10 +32,6 @@ pub record Holding : Type 0 where
   pub written : ℕ
   pub left : ℕ
   pub entries : List ℕ
-
--- The entries of block n.
-unfoldable pub entriesOf : Drive → ℕ → List ℕ
-entriesOf v n = take (capacity (v .table) n .0) (drop (stretchStart (v .table .config) n .0) (v .store))
 
 abbrev pub serialAt : Drive → ℕ → ℕ
 serialAt v n = blockAt (v .table) n .serial
@@ -58,9 +53,9 @@ pub record SameHoldings (a : ℕ) (v w : Drive) : Type 0 where
 
 -- ---- What A sends
 
--- Commands whose own domain is A are A's; all others but Pulse are the neighbours'.
-abbrev pub concerns : ℕ → Command → Bool
-concerns a c = isPulse c || eqb (ownDomain c) a
+-- Calls whose own domain is A are A's; all others but Pulse are the neighbours'.
+abbrev pub concerns : ℕ → Asked → Bool
+concerns a x = isPulse x || eqb (ownDomain x) a
 
 -- A block that is named: one that A holds is given by its serial; of any other block of the drive no more is said than that it
 -- is one; and a number that is no block's (FFFFFFFFh is one) stays a number.
@@ -98,7 +93,7 @@ namingOf a v (heldBlock n) = namesBlock (nameOf a v n)
 namingOf a v (heldOrFree n) = namesBlock (nameOf a v n)
 namingOf a v (blockInAddress word) = namesAddress (addressOf a v word)
 
--- A command by kind and arguments; its own domain and the block that it names are left out.
+-- A call by kind and arguments; its own domain and the block that it names are left out.
 pub data Request : Type 0 where
   create : (guarantee quota : Planes) (placements limit : ℕ) → Request
   changeCapacity : (guarantee quota : Planes) → Request
@@ -112,20 +107,24 @@ pub data Request : Type 0 where
   page : Request
   list : Listed → Request
   pulse : (seconds : ℕ) → Request
+  append : (sample : ℕ) → Request
+  latest : (count : Adus) → Request
 
-unfoldable pub requestOf : Command → Request
-requestOf (Create d guarantee quota placements limit) = create guarantee quota placements limit
-requestOf (ChangeCapacity d guarantee quota) = changeCapacity guarantee quota
-requestOf (Delete d) = delete
-requestOf (Erase d n) = erase
-requestOf (Close d n) = close
-requestOf (Free d n) = free
-requestOf (WriteByPlacement d p start count) = writeByPlacement p start count
-requestOf (WriteByBlock d n start count) = writeByBlock start count
-requestOf (Read d address count expected) = read count expected
-requestOf (Page d n) = page
-requestOf (Listing d which) = list which
-requestOf (Pulse seconds) = pulse seconds
+unfoldable pub requestOf : Asked → Request
+requestOf (calls.command (Create d guarantee quota placements limit)) = create guarantee quota placements limit
+requestOf (calls.command (ChangeCapacity d guarantee quota)) = changeCapacity guarantee quota
+requestOf (calls.command (Delete d)) = delete
+requestOf (calls.command (Erase d n)) = erase
+requestOf (calls.command (Close d n)) = close
+requestOf (calls.command (Free d n)) = free
+requestOf (calls.command (WriteByPlacement d p start count)) = writeByPlacement p start count
+requestOf (calls.command (WriteByBlock d n start count)) = writeByBlock start count
+requestOf (calls.command (Read d address count expected)) = read count expected
+requestOf (calls.command (Page d n)) = page
+requestOf (calls.command (Listing d which)) = list which
+requestOf (calls.command (Pulse seconds)) = pulse seconds
+requestOf (calls.append d sample) = append sample
+requestOf (calls.latest d count) = latest count
 
 -- What a call is to A (01: a place): kind, arguments, the block that is named, and the lent lengths; of a pulse not the lengths.
 pub record Input : Type 0 where
@@ -135,9 +134,9 @@ pub record Input : Type 0 where
 
 abbrev pub inputOf : ℕ → Drive → Call → Input
 inputOf a v k = record {
-  request = requestOf (k .command);
-  names = namingOf a v (profile (k .command) .names);
-  lent = cond (isPulse (k .command)) none (some (k .lent));
+  request = requestOf (k .asks);
+  names = namingOf a v (profileOf (k .asks) .names);
+  lent = cond (isPulse (k .asks)) none (some (k .lent));
 }
 
 -- ---- What A is told
@@ -258,7 +257,7 @@ pub record Observation : Type 0 where
 
 unfoldable pub observed : ℕ → Drive → Call → Reply → Observation
 observed a v k r =
-    let p = profile (k .command) in
+    let p = profileOf (k .asks) in
     let u = step k v in
     record {
       number = r .answer .number;

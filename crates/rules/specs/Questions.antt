@@ -14,7 +14,7 @@ use Rattle.model.specs.declared.command.Command.the-variants.{ChangeCapacity, C
 use Rattle.model.specs.declared.command.Command.the-variants.{WriteByBlock, WriteByPlacement}
 use Rattle.model.specs.declared.table.Table.{Table}
 use Rattle.rules.specs.Blocks.{allOnes, anyBlock, lba, matches, newBlocks, stored, userAddress}
-use Rattle.rules.specs.Calls.{Call, Own, existing, missing, nobody, profile}
+use Rattle.rules.specs.Calls.{Call, Own, existing, missing, nobody, profileOf}
 use Rattle.rules.specs.Counting.{allTo, implies}
 use Rattle.rules.specs.Domains.{arePlaneCounts, changedDomain, coveredWith, createdDomain}
 use Rattle.rules.specs.Drive.{Drive, blockAt, capacity, domainAt, heldBy, heldCount, isClosed, isFree, isOpenByErase, openBlock, openCount}
@@ -93,7 +93,7 @@ domainQuestions t nobody = []
 abbrev pub firstQuestions : Drive → Call → List Question
 firstQuestions v k =
     let t = v .table in
-    let p = profile (k .command) in
+    let p = profileOf (k .asks) in
     ask 2 (sound t) ∷ storeQuestions (p .store) t k ++ domainQuestions t (p .own)
 
 -- Close and Free are then asked the same.
@@ -101,6 +101,21 @@ abbrev pub heldBlockQuestions : Table → ℕ → ℕ → List Question
 heldBlockQuestions t d n =
     ask 6 (isBlock (t .config) n)
     ∷ ask 9 (isHeld t d n)
+    ∷ []
+
+-- Write by placement is then asked this. The first argument is `true` for the manager; the recorder passes on whether the domain has its
+-- shape, which is part of 6.
+abbrev pub placementQuestions : Bool → ℕ → ℕ → ℕ → Adus → Drive → Call → List Question
+placementQuestions shaped d p start count v k =
+    let t = v .table in
+    let new = newBlocks t d p (count .0) in
+    ask 6 (shaped && ltb p (domainAt t d .placements) && isCount count)
+    ∷ ask 7 (leb (count .0) (k .lent .words))
+    ∷ ask 8 (userAddressesFit start (count .0))
+    ∷ ask 11 (mayOpenFor (openBlock t d p) t d)
+    ∷ ask 12 (serialsLeft t d new)
+    ∷ ask 13 (withinQuota t d new)
+    ∷ ask 14 (coveredAfter t d new)
     ∷ []
 
 -- What each command is asked then, in 01's order. The first argument is the command of the call k.
@@ -130,17 +145,7 @@ laterQuestions (Erase d n) v k =
     ∷ []
 laterQuestions (Close d n) v k = heldBlockQuestions (v .table) d n
 laterQuestions (Free d n) v k = heldBlockQuestions (v .table) d n
-laterQuestions (WriteByPlacement d p start count) v k =
-    let t = v .table in
-    let new = newBlocks t d p (count .0) in
-    ask 6 (ltb p (domainAt t d .placements) && isCount count)
-    ∷ ask 7 (leb (count .0) (k .lent .words))
-    ∷ ask 8 (userAddressesFit start (count .0))
-    ∷ ask 11 (mayOpenFor (openBlock t d p) t d)
-    ∷ ask 12 (serialsLeft t d new)
-    ∷ ask 13 (withinQuota t d new)
-    ∷ ask 14 (coveredAfter t d new)
-    ∷ []
+laterQuestions (WriteByPlacement d p start count) v k = placementQuestions true d p start count v k
 laterQuestions (WriteByBlock d n start count) v k =
     let t = v .table in
     ask 6 (isBlock (t .config) n && isCount count)
@@ -168,6 +173,3 @@ laterQuestions (Page d n) v k =
     ∷ []
 laterQuestions (Listing d which) v k = ask 7 (leb (listLength (v .table) d which) (k .lent .bytes)) ∷ []
 laterQuestions (Pulse seconds) v k = ask 6 (between 0 65535 seconds) ∷ []
-
-unfoldable pub questions : Drive → Call → List Question
-questions v k = firstQuestions v k ++ laterQuestions (k .command) v k

@@ -12,7 +12,7 @@ use Rattle.script_lines.specs.Words.{ascii, before, sameText}
 use Rattle.script_lines.specs.declared.keywords.Expected.the-variants as expected
 use Rattle.script_lines.specs.declared.lines.Buffer.the-variants as buffer
 use Rattle.script_lines.specs.declared.lines.Length.the-variants as length
-use Rattle.script_lines.specs.declared.lines.Line.the-variants.{Lend, Nothing, Serve, Show, Take, Wrong}
+use Rattle.script_lines.specs.declared.lines.Line.the-variants.{Append, Latest, Lend, Nothing, Serve, Show, Take, Wrong}
 
 asked :
     (lineOf (ascii "create 1 300 0xC8 2 1") ≡ Serve (command.Create 1 (planes 300) (planes 200) 2 1))
@@ -24,9 +24,11 @@ asked :
     × (lineOf (ascii "lend store full") ≡ Lend buffer.Store length.Full)
     × (lineOf (ascii "lend words 007") ≡ Lend buffer.Words (length.Entries 7))
     × (lineOf (ascii "show") ≡ Show)
+    × (lineOf (ascii "append 3 0xffffffffffffffff") ≡ Append 3 18446744073709551615)
+    × (lineOf (ascii "latest 3 16") ≡ Latest 3 (adus 16))
     × (lineOf (ascii "  # create 1 300 200 2 1") ≡ Nothing)
 unfolding readOn valueOf keywordOf lookedUp lineOf meaning textLine continued numberIn numberOf before sameText
-asked = (refl, refl, refl, refl, refl, refl, refl, refl, refl, refl)
+asked = (refl, refl, refl, refl, refl, refl, refl, refl, refl, refl, refl, refl)
 
 wrong :
     (lineOf (ascii "  creat 1") ≡ Wrong expected.Keyword 2)
@@ -35,5 +37,7 @@ wrong :
     × (lineOf (ascii "take 0x") ≡ Wrong expected.Number 5)
     × (lineOf (ascii "delete") ≡ Wrong expected.Number 6)
     × (lineOf (ascii "delete 1 2") ≡ Wrong expected.LineEnd 9)
+    × (lineOf (ascii "append 3") ≡ Wrong expected.Number 8)
+    × (lineOf (ascii "latest 3 16 1") ≡ Wrong expected.LineEnd 12)
 unfolding readOn valueOf keywordOf lookedUp lineOf meaning textLine continued numberIn numberOf before sameText
-wrong = (refl, refl, refl, refl, refl, refl)
+wrong = (refl, refl, refl, refl, refl, refl, refl, refl)

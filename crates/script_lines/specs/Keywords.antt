@@ -8,8 +8,9 @@ use Rattle.script_lines.specs.declared.keywords.Expected.the-variants.{B
 use Rattle.script_lines.specs.declared.keywords.Found.{Found}
 use Rattle.script_lines.specs.declared.keywords.Found.the-variants.{Is, Nothing}
 use Rattle.script_lines.specs.declared.keywords.Keyword.{Keyword}
-use Rattle.script_lines.specs.declared.keywords.Keyword.the-variants.{Change, Close, Create, Delete, Erase, Free, Lend, List as Listing}
-use Rattle.script_lines.specs.declared.keywords.Keyword.the-variants.{Make, Page, Pulse, Read, Show, Start, Take, Write}
+use Rattle.script_lines.specs.declared.keywords.Keyword.the-variants.{Append, Change, Close, Create, Delete, Erase}
+use Rattle.script_lines.specs.declared.keywords.Keyword.the-variants.{Free, Latest, Lend, List as Listing, Make, Page}
+use Rattle.script_lines.specs.declared.keywords.Keyword.the-variants.{Pulse, Read, Show, Start, Take, Write}
 
 -- A keyword and its name.
 pub record Entry : Type 0 where
@@ -37,6 +38,8 @@ entries =
     ∷ entry (ascii "take") Take
     ∷ entry (ascii "lend") Lend
     ∷ entry (ascii "show") Show
+    ∷ entry (ascii "append") Append
+    ∷ entry (ascii "latest") Latest
     ∷ []
 
 -- The first keyword with that name.
@@ -66,3 +69,5 @@ form Make = Number ∷ Number ∷ Number ∷ Number ∷ Number ∷ Number ∷ []
 form Take = Number ∷ []
 form Lend = Buffer ∷ Length ∷ []
 form Show = []
+form Append = Number ∷ Number ∷ []
+form Latest = Number ∷ Number ∷ []

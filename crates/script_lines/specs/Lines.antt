@@ -25,7 +25,8 @@ use Rattle.script_lines.specs.declared.lines.Buffer.the-variants as buff
 use Rattle.script_lines.specs.declared.lines.Length.{Length}
 use Rattle.script_lines.specs.declared.lines.Length.the-variants.{Entries, Full}
 use Rattle.script_lines.specs.declared.lines.Line.{Line}
-use Rattle.script_lines.specs.declared.lines.Line.the-variants.{Lend, Make, Nothing, Serve, Show, Start, Take, Wrong}
+use Rattle.script_lines.specs.declared.lines.Line.the-variants.{Append, Latest, Lend, Make, Nothing, Serve}
+use Rattle.script_lines.specs.declared.lines.Line.the-variants.{Show, Start, Take, Wrong}
 use Rattle.script_lines.specs.declared.words.Mark.the-variants as mark
 
 -- What the value of a name stands for.
@@ -78,6 +79,8 @@ meaning keyword.Make v =
 meaning keyword.Take v = Take (nth v 0)
 meaning keyword.Lend v = Lend (bufferOf (nth v 0)) (lengthOf (nth v 1))
 meaning keyword.Show v = Show
+meaning keyword.Append v = Append (nth v 0) (nth v 1)
+meaning keyword.Latest v = Latest (nth v 0) (adus (nth v 1))
 
 -- A line goes wrong where its arguments do.
 abbrev pub unlessFaulty : Keyword → List ℕ → Fault → Line

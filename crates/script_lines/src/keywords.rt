@@ -26,6 +26,8 @@ pub enum Keyword {
     Take,
     Lend,
     Show,
+    Append,
+    Latest,
 }
 
 // The keyword that a word is, if it is one.
@@ -66,7 +68,9 @@ fn named_keyword(text: &[u8], name: &[u8], keyword: Keyword, otherwise: Found) -
 pub fn keyword_of(text: &[u8]) -> Found
     ensures { λ r. ⌜ r ≡ keywordOf (now (text .entry)) ⌝ }
 {
-    let found = named_keyword(text, b"show", Keyword::Show, Found::Nothing);
+    let found = named_keyword(text, b"latest", Keyword::Latest, Found::Nothing);
+    let found = named_keyword(text, b"append", Keyword::Append, found);
+    let found = named_keyword(text, b"show", Keyword::Show, found);
     let found = named_keyword(text, b"lend", Keyword::Lend, found);
     let found = named_keyword(text, b"take", Keyword::Take, found);
     let found = named_keyword(text, b"make", Keyword::Make, found);
@@ -105,6 +109,8 @@ pub fn argument_count(keyword: Keyword) -> usize
         Keyword::Take => 1,
         Keyword::Lend => 2,
         Keyword::Show => 0,
+        Keyword::Append => 2,
+        Keyword::Latest => 2,
     }
 }
 

@@ -41,6 +41,10 @@ pub enum Line {
     Take(u64),
     Lend(Buffer, Length),
     Show,
+    // a sample, put behind the others of a domain
+    Append(u64, u64),
+    // the last so many samples of a domain
+    Latest(u64, Adus),
     // no line of the language: what was expected, and how many bytes stand before that place
     Wrong(Expected, usize),
 }
@@ -174,6 +178,8 @@ fn meant(keyword: Keyword, v: [u64; 7]) -> Line
         Keyword::Take => Line::Take(first),
         Keyword::Lend => Line::Lend(buffer_of(first), length_of(second)),
         Keyword::Show => Line::Show,
+        Keyword::Append => Line::Append(first, second),
+        Keyword::Latest => Line::Latest(first, Adus(second)),
     }
 }
 

@@ -13,8 +13,7 @@ use Rattle.model.specs.declared.command.Command.{Command}
 use Rattle.model.specs.declared.table.Table.{Table}
 use Rattle.rules.proofs.Questions.{after}
 use Rattle.rules.specs.Calls.{calling, profile}
-use Rattle.rules.specs.Effects.{Fills, changing, effect}
-use Rattle.rules.specs.Questions.{questions}
+use Rattle.rules.specs.Effects.{Fills, changing, effect, questions}
 use Rattle.rules.specs.Soundness.{sound}
 use Rattle.survey.proofs.Seeing.{changed-nothing}
 use Rattle.survey.specs.Sight.{Sees}

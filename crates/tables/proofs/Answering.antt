@@ -19,10 +19,9 @@ use Rattle.model.specs.declared.answer.Refusal.the-variants.{Unsound}
 use Rattle.model.specs.declared.table.Table.{Table}
 use Rattle.rules.proofs.Drive.{overwritten-nothing}
 use Rattle.rules.proofs.Questions.{after, before, from, in-parts, none-zero, positive-after, positive-before}
-use Rattle.rules.specs.Calls.{Call, profile}
+use Rattle.rules.specs.Calls.{Call, profileOf}
 use Rattle.rules.specs.Drive.{Drive, overwritten}
-use Rattle.rules.specs.Effects.{Effect, Fills, Served, Serves, accepted, changing, effect, step, verdict, wordsFilled}
-use Rattle.rules.specs.Questions.{questions}
+use Rattle.rules.specs.Effects.{Effect, Fills, Served, Serves, accepted, changing, effect, questions, step, verdict, wordsFilled}
 use Rattle.rules.specs.Soundness.{sound}
 
 -- ---- Questions in parts
@@ -136,7 +135,7 @@ pub accepted-call : (v : Drive) (k : Call) (words bytes : List ℕ) (r : Served)
     → r .answer ≡ success (effect v k .values)
     → r .drive ≡ effect v k .drive
     → r .words ≡ overwritten 0 (effect v k .words) words
-    → Fills (profile (k .command) .bytes) (v .table) filled
+    → Fills (profileOf (k .asks) .bytes) (v .table) filled
     → r .bytes ≡ overwritten 0 filled bytes
     → Serves v k words bytes r
 unfolding step wordsFilled
@@ -162,7 +161,7 @@ pub table-call : (v : Drive) (k : Call) (words bytes values : List ℕ) (answer 
     → firstNo (after 2 (questions v k)) ≡ 0
     → effect v k ≡ changing values after-it v
     → outcomeOf answer ≡ success values
-    → Fills (profile (k .command) .bytes) (v .table) []
+    → Fills (profileOf (k .asks) .bytes) (v .table) []
     → Serves v k words bytes (served (answering after-it answer) (v .store) words bytes)
 table-call v k words bytes values answer after-it s e does says bytes-are =
     accepted-call v k words bytes (served (answering after-it answer) (v .store) words bytes) []

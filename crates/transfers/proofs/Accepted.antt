@@ -26,8 +26,8 @@ use Rattle.rules.proofs.Questions.{after, before, from, yes-in}
 use Rattle.rules.specs.Blocks.{matches, stored, userAddresses, writtenInto}
 use Rattle.rules.specs.Calls.{calling}
 use Rattle.rules.specs.Drive.{Drive, overwritten, size, withBlock}
-use Rattle.rules.specs.Effects.{Serves, effect}
-use Rattle.rules.specs.Questions.{isCount, questions, userAddressesFit}
+use Rattle.rules.specs.Effects.{Serves, effect, questions}
+use Rattle.rules.specs.Questions.{isCount, userAddressesFit}
 use Rattle.rules.specs.Soundness.{sound}
 use Rattle.survey.proofs.Seeing.{changed-block, sound-limits}
 use Rattle.survey.specs.declared.sight.Sight.{Sight}

@@ -18,7 +18,7 @@ use Rattle.rules.proofs.Kept.Tested.{facts-of}
 use Rattle.rules.proofs.Questions.{after, before}
 use Rattle.rules.specs.Calls.{lending}
 use Rattle.rules.specs.Drive.{blockAt, size}
-use Rattle.rules.specs.Questions.{questions}
+use Rattle.rules.specs.Effects.{questions}
 use Rattle.rules.specs.Soundness.{sound}
 use Rattle.survey.specs.Sight.{Sees, SeesBlock}
 use Rattle.survey.specs.declared.sight.Sight.{Sight}

@@ -1,3 +1,4 @@
 -- Laws that the functions' proofs share.
 pub mod Filling
 pub mod AnswerNumbers
+pub mod Bytes

@@ -1,4 +1,4 @@
--- A command as six numbers, its kind and its arguments in their order, and an answer as one.
+-- A command, or one of the recorder's calls, as six numbers, its kind and its arguments in their order, and an answer as one.
 use Prim.Native.Nat.{ℕ, _+_, _%_}
 use mathlib.Core.Bool.{cond}
 use mathlib.Core.List.{List}
@@ -12,7 +12,10 @@ use Rattle.model.specs.declared.command.Command.the-variants.{ChangeCapacity, C
 use Rattle.model.specs.declared.command.Command.the-variants.{WriteByBlock, WriteByPlacement}
 use Rattle.model.specs.declared.command.Listed.{Listed}
 use Rattle.model.specs.declared.command.Listed.the-variants as listed
+use Rattle.rules.specs.Calls.{Asked, append, command, latest}
 use Rattle.trial.specs.Rows.{numberIn}
+use Rattle.trial.specs.declared.commands.Request.{Request}
+use Rattle.trial.specs.declared.commands.Request.the-variants as request
 
 abbrev pub listedOf : ℕ → Listed
 listedOf n = cond (eqb n 0) listed.Open listed.Closed
@@ -38,9 +41,21 @@ transferOf kind a b c d =
 unfoldable pub commandOf : ℕ → ℕ → ℕ → ℕ → ℕ → ℕ → Command
 commandOf kind a b c d e = cond (ltb kind 6) (changeOf kind a b c d e) (transferOf kind a b c d)
 
-unfoldable pub commandIn : List ℕ → ℕ → Command
-commandIn row at =
-    commandOf (numberIn row at) (numberIn row (at + 1)) (numberIn row (at + 2)) (numberIn row (at + 3)) (numberIn row (at + 4)) (numberIn row (at + 5))
+-- What six numbers ask for: a command, or one of the recorder's calls, kinds 12 and 13.
+unfoldable pub askedOf : ℕ → ℕ → ℕ → ℕ → ℕ → ℕ → Asked
+askedOf kind a b c d e =
+    cond (eqb kind 12) (append a b)
+    (cond (eqb kind 13) (latest a (adus b)) (command (commandOf kind a b c d e)))
+
+unfoldable pub askedIn : List ℕ → ℕ → Asked
+askedIn row at =
+    askedOf (numberIn row at) (numberIn row (at + 1)) (numberIn row (at + 2)) (numberIn row (at + 3)) (numberIn row (at + 4)) (numberIn row (at + 5))
+
+-- What a request asks for.
+abbrev pub askedFor : Request → Asked
+askedFor (request.Command c) = command c
+askedFor (request.Append d sample) = append d sample
+askedFor (request.Latest d count) = latest d count
 
 -- 0 for success, a refusal's number, or 256 more than a block's.
 abbrev pub answerNumber : Answer → ℕ

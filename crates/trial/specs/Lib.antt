@@ -1,4 +1,4 @@
--- Tables, commands and answers as numbers, and what a trial comes to.
+-- Tables, commands, the recorder's calls and answers as numbers, and what a trial comes to.
 pub mod Rows
 pub mod Commands
 pub mod Trials

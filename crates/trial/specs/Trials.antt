@@ -8,11 +8,11 @@ use lib.ListN.{length}
 use Rattle.geometry.specs.declared.shape.Config.{Config}
 use Rattle.model.specs.Answers.{outcomeOf}
 use Rattle.model.specs.declared.answer.Answer.{Answer}
-use Rattle.model.specs.declared.command.Command.{Command}
 use Rattle.model.specs.declared.table.Table.{Table}
+use Rattle.rules.specs.Calls.{Asked}
 use Rattle.rules.specs.Start.{started}
-use Rattle.tables.specs.Serving.{ServesCommand, answering, served}
-use Rattle.trial.specs.Commands.{answerNumber, commandIn}
+use Rattle.tables.specs.Serving.{ServesFor, answering, served}
+use Rattle.trial.specs.Commands.{answerNumber, askedIn}
 use Rattle.trial.specs.Rows.{rowLength, tableIn, withTable}
 
 -- What a trial is lent, and leaves.
@@ -37,9 +37,9 @@ pub record StartTried (c : Config) (number : ℕ) (before after : List ℕ) : Ty
   pub begun : rowLength ≤ length before → Begun c number before after
   pub refused : length before < rowLength → (number ≡ 17) × (after ≡ before)
 
--- One command on a table: what `serve` may hand back.
-pub record Call (c : Command) (t : Table) (before : Lent) (answer : Answer) (u : Table) (after : Lent) : Type 0 where
-  pub serves : ServesCommand t c (before .store) (before .words) (before .bytes)
+-- One command on a table, or one of the recorder's calls: what the manager's functions or the recorder's may hand back.
+pub record Call (x : Asked) (t : Table) (before : Lent) (answer : Answer) (u : Table) (after : Lent) : Type 0 where
+  pub serves : ServesFor t x (before .store) (before .words) (before .bytes)
       (served (answering u answer) (after .store) (after .words) (after .bytes))
   pub same-row : after .row ≡ before .row
 
@@ -47,16 +47,16 @@ pub record Call (c : Command) (t : Table) (before : Lent) (answer : Answer) (u :
 abbrev pub holding : Table → Lent → Lent
 holding t l = record { row = withTable t (l .row); store = l .store; words = l .words; bytes = l .bytes }
 
-pub record Told (c : Command) (number : ℕ) (before after : Lent) : Type 0 where
+pub record Told (x : Asked) (number : ℕ) (before after : Lent) : Type 0 where
   pub answer : Answer
   pub table : Table
   pub left : Lent
-  pub call : Call c (tableIn (before .row)) before answer table left
+  pub call : Call x (tableIn (before .row)) before answer table left
   pub told : number ≡ answerNumber answer
   pub held : after ≡ holding table left
 
-pub record ServeTried (c : Command) (number : ℕ) (before after : Lent) : Type 0 where
-  pub called : rowLength ≤ length (before .row) → Told c number before after
+pub record ServeTried (x : Asked) (number : ℕ) (before after : Lent) : Type 0 where
+  pub called : rowLength ≤ length (before .row) → Told x number before after
   pub refused : length (before .row) < rowLength → (number ≡ 17) × (after ≡ before)
 
 -- So many commands from a row of them, one after the other and from its start again.
@@ -69,7 +69,7 @@ summed sum answer = (sum * 31 + answerNumber answer) % 4294967296
 pub data Calls (commands : List ℕ) : ℕ → ℕ → ℕ → Table → Lent → ℕ → ℕ → Table → Lent → Type 0 where
   none : {at sum : ℕ} {t : Table} {l : Lent} → Calls commands 0 at sum t l at sum t l
   more : {n at sum at₁ sum₁ : ℕ} {t u v : Table} {l m k : Lent} {answer : Answer}
-      → Calls commands n at sum t l at₁ sum₁ u m → Call (commandIn commands at₁) u m answer v k
+      → Calls commands n at sum t l at₁ sum₁ u m → Call (askedIn commands at₁) u m answer v k
       → Calls commands (suc n) at sum t l (next commands at₁) (summed sum₁ answer) v k
 
 pub record Ran (rounds : ℕ) (commands : List ℕ) (sum : ℕ) (before after : Lent) : Type 0 where

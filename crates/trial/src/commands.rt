@@ -1,4 +1,4 @@
-// A command as six numbers: its kind and its arguments, in their order.
+// A command, or one of the recorder's calls, as six numbers: its kind and its arguments, in their order.
 use geometry::Adus;
 use geometry::Planes;
 use model::Answer;
@@ -7,7 +7,15 @@ use model::Listed;
 ghost use mathlib.Core.Path.{_≡_};
 ghost use Prim.Native.Nat.{_+_, _≤_};
 ghost use lib.ListN.{length};
-ghost use Rattle.trial.specs.Commands.{answerNumber, changeOf, commandIn, commandOf, listedOf, transferOf};
+ghost use Rattle.trial.specs.Commands.{answerNumber, askedFor, askedIn, askedOf, changeOf, commandOf, listedOf, transferOf};
+
+// What is asked for: a command of the manager, or one of the recorder's two calls, a domain and a sample to
+// append, or a domain and how many of its latest samples to read.
+pub(crate) enum Request {
+    Command(Command),
+    Append(u64, u64),
+    Latest(u64, Adus),
+}
 
 fn listed_of(n: u64) -> Listed
     ensures { λ r. ⌜ r ≡ listedOf n ⌝ }
@@ -83,7 +91,8 @@ fn transfer_of(kind: u64, a: u64, b: u64, c: u64, d: u64) -> Command
     }
 }
 
-pub(crate) fn command_of(kind: u64, a: u64, b: u64, c: u64, d: u64, e: u64) -> Command
+// The commands, kinds 0 to 11.
+fn command_of(kind: u64, a: u64, b: u64, c: u64, d: u64, e: u64) -> Command
     ensures { λ r. ⌜ r ≡ commandOf kind a b c d e ⌝ }
 {
     if kind < 6 {
@@ -93,11 +102,22 @@ pub(crate) fn command_of(kind: u64, a: u64, b: u64, c: u64, d: u64, e: u64) -> C
     }
 }
 
-pub(crate) fn command_in(row: &[u64], at: usize) -> Command
-    requires { ⌜ at + 6 ≤ length (now row) ⌝ }
-    ensures { λ r. ⌜ r ≡ commandIn (now (row .entry)) at ⌝ }
+// The recorder's calls are kinds 12 and 13.
+pub(crate) fn request_of(kind: u64, a: u64, b: u64, c: u64, d: u64, e: u64) -> Request
+    ensures { λ r. ⌜ askedFor r ≡ askedOf kind a b c d e ⌝ }
 {
-    command_of(
+    match kind {
+        12 => Request::Append(a, b),
+        13 => Request::Latest(a, Adus(b)),
+        _ => Request::Command(command_of(kind, a, b, c, d, e)),
+    }
+}
+
+pub(crate) fn request_in(row: &[u64], at: usize) -> Request
+    requires { ⌜ at + 6 ≤ length (now row) ⌝ }
+    ensures { λ r. ⌜ askedFor r ≡ askedIn (now (row .entry)) at ⌝ }
+{
+    request_of(
         row[at],
         row[at + 1],
         row[at + 2],

@@ -1,16 +1,16 @@
 // What another implementation is compared with, and timed against. A row that is too short for a table
 // gets 17, which no question has, and nothing is done.
+use crate::asking::ask;
 use crate::commands::answer_number;
-use crate::commands::command_of;
+use crate::commands::request_of;
 use crate::rows::ROW;
 use crate::rows::put_table;
 use crate::rows::table_in;
 use crate::running::run;
 use geometry::Config;
-use manager::serve;
 use manager::start;
 ghost use Rattle.geometry.specs.Answers.{configOf};
-ghost use Rattle.trial.specs.Commands.{commandOf};
+ghost use Rattle.trial.specs.Commands.{askedOf};
 ghost use Rattle.trial.specs.Trials.{RunTried, ServeTried, StartTried, lending};
 
 const TOO_SHORT: u64 = 17;
@@ -47,7 +47,7 @@ pub extern "C" fn trial_start(
     answer_number(answer)
 }
 
-// One command on the table of the row.
+// One command on the table of the row, or one of the recorder's calls.
 #[no_mangle]
 pub extern "C" fn trial_serve(
     kind: u64,
@@ -61,13 +61,13 @@ pub extern "C" fn trial_serve(
     words: &mut [u64],
     bytes: &mut [u8],
 ) -> u64
-    ensures { λ r. ⌜ ServeTried (commandOf kind a b c d e) r (lending (now (row .entry)) (now (store .entry)) (now (words .entry)) (now (bytes .entry))) (lending (now (row .exit)) (now (store .exit)) (now (words .exit)) (now (bytes .exit))) ⌝ }
+    ensures { λ r. ⌜ ServeTried (askedOf kind a b c d e) r (lending (now (row .entry)) (now (store .entry)) (now (words .entry)) (now (bytes .entry))) (lending (now (row .exit)) (now (store .exit)) (now (words .exit)) (now (bytes .exit))) ⌝ }
 {
     if row.len() < ROW {
         return TOO_SHORT;
     }
     let table = table_in(row);
-    let served = serve(table, command_of(kind, a, b, c, d, e), store, words, bytes);
+    let served = ask(table, request_of(kind, a, b, c, d, e), store, words, bytes);
     let after = served.table;
     put_table(row, after);
     let answer = served.answer;

@@ -1,7 +1,7 @@
-// Commands from a row of them, one after the other on one table.
+// Commands from a row of them, and calls of the recorder, one after the other on one table.
+use crate::asking::ask_in;
 use crate::commands::answer_number;
-use crate::commands::command_in;
-use manager::serve_in;
+use crate::commands::request_in;
 use model::Answer;
 use model::Table;
 ghost use mathlib.Core.Bool.{cond};
@@ -52,8 +52,8 @@ pub(crate) fn run(
     let mut at: usize = 0;
     let mut n: u64 = 0;
     while n < rounds {
-        let command = command_in(commands, at);
-        let answer = serve_in(&mut changed, command, store, words, bytes);
+        let request = request_in(commands, at);
+        let answer = ask_in(&mut changed, request, store, words, bytes);
         sum = sum_with(sum, answer);
         at = next_place(commands.len(), at);
         n += 1;

@@ -12,8 +12,8 @@ use Rattle.model.specs.declared.table.Table.{Table}
 use Rattle.rules.specs.Blocks.{newBlocks, userAddress, userAddresses}
 use Rattle.rules.specs.Calls.{Call, _asking_}
 use Rattle.rules.specs.Drive.{Drive, blockAt, capacity, domainAt, heldCount, size}
-use Rattle.rules.specs.Effects.{effect, verdict}
-use Rattle.rules.specs.Questions.{isCount, questions}
+use Rattle.rules.specs.Effects.{effect, questions, verdict}
+use Rattle.rules.specs.Questions.{isCount}
 use Rattle.rules.proofs.Counting.{length-row}
 use Rattle.rules.proofs.Kept.Changes.{HeldBlock, Writable, closed-sequel, freed-sequel, written-sequel}
 use Rattle.rules.proofs.Kept.Facts.{coverageWith}

@@ -14,11 +14,10 @@ use Rattle.model.specs.declared.command.Command.{Command}
 use Rattle.model.specs.declared.command.Command.the-variants.{ChangeCapacity, Close, Create, Delete, Erase, Free, List as Listing, Page, Pulse, Read}
 use Rattle.model.specs.declared.command.Command.the-variants.{WriteByBlock, WriteByPlacement}
 use Rattle.rules.specs.Blocks.{anyBlock, chosenBlock, newBlocks, userAddress}
-use Rattle.rules.specs.Calls.{Call, Own, _asking_, domainOf, existing, isNobodys, isPulse, missing, nobody, ownDomain, profile}
+use Rattle.rules.specs.Calls.{Asked, Call, Own, _asking_, _for_, append, command, domainOf, existing, isNobodys, isPulse, latest, missing, nobody, ownDomain, profile, profileOf}
 use Rattle.rules.specs.Claims.{LentOwn, Shaped, StillSound}
 use Rattle.rules.specs.Drive.{Drive, heldCount}
-use Rattle.rules.specs.Effects.{accepted, effect, step, verdict, wordsFilled}
-use Rattle.rules.specs.Questions.{questions}
+use Rattle.rules.specs.Effects.{accepted, effect, questions, step, verdict, wordsFilled}
 use Rattle.rules.specs.Runs.{run}
 use Rattle.rules.specs.Soundness.{sound}
 use Rattle.rules.proofs.Counting.{length-row}
@@ -28,6 +27,7 @@ use Rattle.rules.proofs.Kept.Erasing.{any-opens, erase-sequel}
 use Rattle.rules.proofs.Kept.Facts.{Facts}
 use Rattle.rules.proofs.Kept.Fit.{Fit}
 use Rattle.rules.proofs.Kept.Placement.{placement-all}
+use Rattle.rules.proofs.Kept.Recorder.{append-sequel}
 use Rattle.rules.proofs.Kept.Sequel.{OwnSequel, Sequel, same-sequel}
 use Rattle.rules.proofs.Kept.Sweeps.{deleted, pulsed-sequel}
 use Rattle.rules.proofs.Kept.Tested.{facts-of, facts-sound}
@@ -71,19 +71,25 @@ module _ (v : Drive) (call : Call) (fit : Fit v call) where
   effect-leaves (Listing d which) e = same-sequel d v (fit .facts)
   effect-leaves (Pulse seconds) e = pulsed-sequel v call (fit .facts) (fit .shaped .domains) seconds
 
+  leaves-for : (x : Asked) → verdict v (call for x) ≡ 0 → Leaves (profileOf x .own) v (effect v (call for x) .drive)
+  unfolding effect
+  leaves-for (command c) e = effect-leaves c e
+  leaves-for (append d sample) e = append-sequel v call fit d sample e
+  leaves-for (latest d count) e = same-sequel d v (fit .facts)
+
   -- So does a call, accepted or refused.
-  call-leaves : Leaves (profile (call .command) .own) v (step call v)
+  call-leaves : Leaves (profileOf (call .asks) .own) v (step call v)
   unfolding step
   call-leaves =
       by-test (accepted v call)
-      (λ e. rw e (effect-leaves (call .command) (eqb-true (verdict v call) 0 e)))
-      (λ e. rw e (leaves-same (profile (call .command) .own) v (fit .facts)))
+      (λ e. rw e (leaves-for (call .asks) (eqb-true (verdict v call) 0 e)))
+      (λ e. rw e (leaves-same (profileOf (call .asks) .own) v (fit .facts)))
 
   pub call-sequel : Sequel v (step call v)
-  call-sequel = leaves-sequel (profile (call .command) .own) call-leaves
+  call-sequel = leaves-sequel (profileOf (call .asks) .own) call-leaves
 
-  pub own-sequel : isPulse (call .command) ≡ false → OwnSequel (ownDomain (call .command)) v (step call v)
-  own-sequel p = leaves-own (profile (call .command) .own) p call-leaves
+  pub own-sequel : isPulse (call .asks) ≡ false → OwnSequel (ownDomain (call .asks)) v (step call v)
+  own-sequel p = leaves-own (profileOf (call .asks) .own) p call-leaves
 
 -- ---- One call, in terms of the test
 
@@ -130,7 +136,7 @@ pub record Course (v : Drive) : Type 0 where
 pub course-fit : {v : Drive} → Course v → (call : Call) → Fit v call
 course-fit c call = record { facts = c .facts; shaped = c .shaped; own = λ e. c .store }
 
-course-on : (v w : Drive) → Course v → Sequel v w → Course w
+pub course-on : (v w : Drive) → Course v → Sequel v w → Course w
 course-on v w c s = record {
   facts = s .facts;
   shaped = record { domains = s .domains ∙ c .shaped .domains; blocks = s .blocks ∙ c .shaped .blocks };

@@ -15,8 +15,8 @@ use Rattle.model.specs.declared.block.State.the-variants.{Open}
 use Rattle.model.specs.declared.block.Way.{Way}
 use Rattle.model.specs.declared.table.Domain.{Domain}
 use Rattle.rules.specs.Blocks.{closedAt, freedAt, nextSerial, openedFor, withLast, writtenInto}
-use Rattle.rules.specs.Drive.{Drive, blockAdus, blockAt, capacity, clearBlock, clearDomain, domainAt, heldBy, heldCount, isPlacedState, openCount, size, withBlock}
-use Rattle.rules.specs.Observation.{Holding, entriesOf, holdingAt}
+use Rattle.rules.specs.Drive.{Drive, blockAdus, blockAt, capacity, clearBlock, clearDomain, domainAt, entriesOf, heldBy, heldCount, isPlacedState, openCount, size, withBlock}
+use Rattle.rules.specs.Observation.{Holding, holdingAt}
 use Rattle.rules.specs.Soundness.{wayBelow}
 use Rattle.rules.proofs.Drive.{domain-other}
 use Rattle.rules.proofs.Kept.Entries.{entries-stay}

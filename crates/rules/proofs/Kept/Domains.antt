@@ -16,10 +16,9 @@ use Rattle.model.specs.declared.table.Domain.{Domain}
 use Rattle.model.specs.declared.table.Table.{Table}
 use Rattle.rules.specs.Calls.{Call, _asking_}
 use Rattle.rules.specs.Domains.{arePlaneCounts, changedDomain, coverage, coveredWith, createdDomain, instead, newBlockCount, openLimit, reservedBy}
-use Rattle.rules.specs.Drive.{Drive, blockAt, clearDomain, domainAt, heldBy, heldCount, isOpen, openCount, size, withDomain}
-use Rattle.rules.specs.Effects.{effect, verdict}
-use Rattle.rules.specs.Observation.{Holding, entriesOf}
-use Rattle.rules.specs.Questions.{questions}
+use Rattle.rules.specs.Drive.{Drive, blockAt, clearDomain, domainAt, entriesOf, heldBy, heldCount, isOpen, openCount, size, withDomain}
+use Rattle.rules.specs.Effects.{effect, questions, verdict}
+use Rattle.rules.specs.Observation.{Holding}
 use Rattle.rules.proofs.Counting.{by-eq, sum-le}
 use Rattle.rules.proofs.Domains.{changed-order}
 use Rattle.rules.proofs.Drive.{domain-other}

@@ -14,8 +14,7 @@ use Rattle.geometry.specs.declared.address.FlashAddress.{FlashAddress}
 use Rattle.geometry.specs.declared.shape.Config.{Config}
 use Rattle.model.specs.declared.block.Way.{Way}
 use Rattle.rules.specs.Blocks.{allOnes, openedFor, stored, writtenInto}
-use Rattle.rules.specs.Drive.{Drive, blockAdus, blockAt, overwritten}
-use Rattle.rules.specs.Observation.{entriesOf}
+use Rattle.rules.specs.Drive.{Drive, blockAdus, blockAt, entriesOf, overwritten}
 use Rattle.rules.proofs.Store.{entry-before, entry-behind, entry-new, length-overwritten}
 use Rattle.rules.proofs.Writes.{Ready, entry, inside, opened-entry, opened-ready, written-entry, written-own, written-ready}
 
@@ -40,7 +39,7 @@ get-drop (suc k) i (x ∷ l) = rw (suc-add k i) (get-drop k i l)
 
 module _ (c : Config) where
   -- A block has as many entries as ADUs, each of them the store's.
-  entries-length : (v : Drive) (n : ℕ) → Ready c v → n < c .blocks → length (entriesOf v n) ≡ blockAdus c n .0
+  pub entries-length : (v : Drive) (n : ℕ) → Ready c v → n < c .blocks → length (entriesOf v n) ≡ blockAdus c n .0
   unfolding entriesOf
   entries-length v n r l =
       rw (r .shape) (simp (length-take, length-drop) (omega (arith, inside c n l, r .store)))

@@ -16,9 +16,9 @@ use Rattle.model.specs.declared.table.Table.{Table}
 use Rattle.rules.specs.Blocks.{anyBlock, chosenBlock, freedAt, openedFor}
 use Rattle.rules.specs.Calls.{Call, _asking_}
 use Rattle.rules.specs.Drive.{Drive, blockAt, domainAt, heldCount, isFree, openCount, size}
-use Rattle.rules.specs.Effects.{effect, verdict}
+use Rattle.rules.specs.Effects.{effect, questions, verdict}
 use Rattle.rules.specs.Observation.{Holding, holdingAt}
-use Rattle.rules.specs.Questions.{isHeld, newOfErase, questions}
+use Rattle.rules.specs.Questions.{isHeld, newOfErase}
 use Rattle.rules.proofs.Blocks.{Choice, choice}
 use Rattle.rules.proofs.Counting.{the-first}
 use Rattle.rules.proofs.Kept.Changes.{HeldBlock, Openable, freed-changed, freed-facts, freed-found, freed-not-held, freed-sequel, opened-facts, opened-sequel, reopened}

@@ -179,7 +179,7 @@ module _ {d p k : ℕ} {users : List ℕ} {v : Drive} (o : Onward d p (suc k) us
           (o .facts .blocks n (chosen-free .0));
     }
 
-    open-facts : Facts opening
+    pub open-facts : Facts opening
     open-facts =
         opened-facts next-openable (Placement p) (o .facts) (o .exists)
         (lt-ltb p (domainAt (v .table) d .placements) (o .placement))

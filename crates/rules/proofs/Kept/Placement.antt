@@ -67,7 +67,7 @@ unfolding writtenByPlacement newBlocks
 placement-is d p users v found e = rw e
 
 -- The open block has room, and is held by the domain.
-open-written : (t : Table) (s : State) (b : Block) (p : ℕ) → isPlacedState p s ≡ true → StateFacts t s b
+pub open-written : (t : Table) (s : State) (b : Block) (p : ℕ) → isPlacedState p s ≡ true → StateFacts t s b
     → b .written .0 < adusPerBlock (t .config) .0
 open-written t Free b p e f = absurd (true≢false (sym e))
 open-written t (Open way) b p e f = f .written
@@ -117,10 +117,10 @@ module _ {d p : ℕ} {users : List ℕ} {v : Drive} (a : Asked d p users v) wher
     abbrev first : Drive
     first = writtenInto d n these v .drive
 
-    is-open : (n < size (v .table)) × (heldBy d (blockAt (v .table) n) ≡ true) × (isOpenFor p (blockAt (v .table) n) ≡ true)
+    pub is-open : (n < size (v .table)) × (heldBy d (blockAt (v .table) n) ≡ true) × (isOpenFor p (blockAt (v .table) n) ≡ true)
     is-open = subst (OpenTo v d p (size (v .table))) e (open-to v d p (size (v .table)))
 
-    has-room : blockAt (v .table) n .written .0 < most
+    pub has-room : blockAt (v .table) n .written .0 < most
     has-room = open-written (v .table) (blockAt (v .table) n .state) (blockAt (v .table) n) p (is-open .2) (a .facts .blocks n (is-open .0))
 
     -- It may be written into.

@@ -14,10 +14,9 @@ use Rattle.model.specs.declared.table.Domain.{Domain}
 use Rattle.rules.specs.Blocks.{pulsed}
 use Rattle.rules.specs.Calls.{Call, _asking_}
 use Rattle.rules.specs.Domains.{coverage, deletedDomain, freedIfHeld, reservedBy}
-use Rattle.rules.specs.Drive.{Drive, blockAt, clearDomain, domainAt, heldBy, heldCount, openCount, size}
-use Rattle.rules.specs.Effects.{effect, verdict}
-use Rattle.rules.specs.Observation.{Holding, entriesOf, holdingAt}
-use Rattle.rules.specs.Questions.{questions}
+use Rattle.rules.specs.Drive.{Drive, blockAt, clearDomain, domainAt, entriesOf, heldBy, heldCount, openCount, size}
+use Rattle.rules.specs.Effects.{effect, questions, verdict}
+use Rattle.rules.specs.Observation.{Holding, holdingAt}
 use Rattle.rules.proofs.Counting.{by-eq, sum-le, sum-same}
 use Rattle.rules.proofs.Domains.{deleted-clear, deleted-holds-nothing}
 use Rattle.rules.proofs.Drive.{block-changed-below, domain-other}

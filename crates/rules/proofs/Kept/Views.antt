@@ -10,8 +10,8 @@ use Rattle.geometry.specs.declared.shape.Config.{Config}
 use Rattle.model.specs.declared.table.Domain.{Domain}
 use Rattle.rules.specs.Blocks.{withLast}
 use Rattle.rules.specs.Counting.{sumTo}
-use Rattle.rules.specs.Drive.{Drive, blockAt, closedCount, domainAt, heldBy, heldCount, isClosedState, isOpenState, isPlacedState, openCount, size}
-use Rattle.rules.specs.Observation.{Holding, entriesOf, holdingAt}
+use Rattle.rules.specs.Drive.{Drive, blockAt, closedCount, domainAt, entriesOf, heldBy, heldCount, isClosedState, isOpenState, isPlacedState, openCount, size}
+use Rattle.rules.specs.Observation.{Holding, holdingAt}
 use Rattle.rules.proofs.Counting.{sum-at, sum-same, sum-two}
 
 -- ---- Views

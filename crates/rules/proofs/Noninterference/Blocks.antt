@@ -16,9 +16,9 @@ use Rattle.model.specs.declared.command.Command.the-variants.{Close, Free}
 use Rattle.model.specs.declared.table.Domain.{Domain}
 use Rattle.rules.specs.Blocks.{allOnes, closedAt, nextSerial, openedFor, withLast, writtenInto}
 use Rattle.rules.specs.Calls.{Call, _asking_}
-use Rattle.rules.specs.Drive.{Drive, blockAt, capacity, clearDomain, heldBy, size}
+use Rattle.rules.specs.Drive.{Drive, blockAt, capacity, clearDomain, entriesOf, heldBy, size}
 use Rattle.rules.specs.Effects.{effect}
-use Rattle.rules.specs.Observation.{Holding, Name, Observation, ReadBytes, ReadValues, ReadWords, entriesOf, holdingAt, nameOf}
+use Rattle.rules.specs.Observation.{Holding, Name, Observation, ReadBytes, ReadValues, ReadWords, holdingAt, nameOf}
 use Rattle.rules.specs.Questions.{heldBlockQuestions}
 use Rattle.rules.proofs.Kept.Asked.{close-asked, free-asked}
 use Rattle.rules.proofs.Kept.Calls.{course-fit}
@@ -39,7 +39,7 @@ close-holding {d} {n} {v} h =
     rw (closed-found h)
     (closed-seen (b .state) (b .holder) (b .written) (b .left) (b .erases) (b .serial) (entriesOf v n))
 
-fill-holding : {d n : ℕ} {users : List ℕ} {v : Drive} → Writable d n users v
+pub fill-holding : {d n : ℕ} {users : List ℕ} {v : Drive} → Writable d n users v
     → holdingAt (writtenInto d n users v .drive) n ≡ writtenHolding users (capacity (v .table) n .0) (holdingAt v n)
 fill-holding {d} {n} {users} {v} x =
     let b = blockAt (v .table) n in
@@ -48,7 +48,7 @@ fill-holding {d} {n} {users} {v} x =
     (entries-written (v .table .config) d n users v (x .ready) (x .inside) (x .fits))
     ∙ (written-seen (b .state) (b .holder) (b .written) (b .left) (b .erases) (b .serial) users (entriesOf v n) (capacity (v .table) n .0))
 
-abbrev freshHolding : Config → Way → ℕ → Holding
+abbrev pub freshHolding : Config → Way → ℕ → Holding
 freshHolding c way serial = record {
   serial = serial;
   state = state.Open way;
@@ -57,7 +57,7 @@ freshHolding c way serial = record {
   entries = replicate (adusPerBlock c .0) allOnes;
 }
 
-open-holding : {d n : ℕ} {v : Drive} → Openable d n v → (way : Way)
+pub open-holding : {d n : ℕ} {v : Drive} → Openable d n v → (way : Way)
     → holdingAt (openedFor d way n v) n ≡ freshHolding (v .table .config) way (nextSerial (v .table) d)
 open-holding {d} {n} {v} o way =
     rw (opened-record o way, entries-opened (v .table .config) d way n v (o .ready) (o .inside))

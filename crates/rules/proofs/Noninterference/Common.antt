@@ -15,13 +15,13 @@ use Rattle.geometry.specs.declared.shape.Config.{Config}
 use Rattle.model.specs.declared.block.Block.{Block}
 use Rattle.model.specs.declared.command.Command.{Command}
 use Rattle.model.specs.declared.table.Domain.{Domain}
-use Rattle.rules.specs.Calls.{Call, Own, _asking_, existing, profile}
+use Rattle.rules.specs.Calls.{Asked, Call, Own, _asking_, _for_, command, existing, profile, profileOf}
 use Rattle.rules.specs.Domains.{coverage, instead, reservedBy}
 use Rattle.rules.specs.Drive.{Drive, blockAt, domainAt, heldBy, heldCount, size}
-use Rattle.rules.specs.Effects.{verdict}
+use Rattle.rules.specs.Effects.{askedThen, questions, verdict}
 use Rattle.rules.specs.Noninterference.{reservesAll}
 use Rattle.rules.specs.Observation.{Holds, Name, held, holdingAt, nameOf, noBlock, other, serialAt}
-use Rattle.rules.specs.Questions.{coveredAfter, domainQuestions, exists, laterQuestions, mayOpen, questions, serialsLeft, storeFits, storeQuestions, withinQuota}
+use Rattle.rules.specs.Questions.{coveredAfter, domainQuestions, exists, laterQuestions, mayOpen, serialsLeft, storeFits, storeQuestions, withinQuota}
 use Rattle.rules.specs.Soundness.{sound}
 use Rattle.rules.proofs.Counting.{by-eq, sum-le}
 use Rattle.rules.proofs.Kept.Calls.{Course}
@@ -136,7 +136,18 @@ module _ {a : ℕ} {v w : Drive} (p : Pair a v w) where
       (λ asked. rw asked (ask-same 3 (storeFits (v .table) k) (storeFits (w .table) l) _ _ fits (λ e3. four)))
       (λ not-asked. rw not-asked four)))
 
-  -- .. so that two commands of it get the same if they do where they go on from there.
+  -- .. so that two calls of it get the same if they do where they go on from there.
+  pub first-same-for : (call : Call) (x y : Asked)
+      → profileOf x .own ≡ existing a
+      → profileOf y .own ≡ existing a
+      → profileOf x .store ≡ profileOf y .store
+      → (exists (v .table) a ≡ true → firstNo (askedThen x v (call for x)) ≡ firstNo (askedThen y w (call for y)))
+      → verdict v (call for x) ≡ verdict w (call for y)
+  unfolding questions
+  first-same-for call x y e f g rest =
+      first-asked (profileOf x .own) (profileOf y .own) (profileOf x .store) (profileOf y .store) (call for x) (call for y)
+      (askedThen x v (call for x)) (askedThen y w (call for y)) (fits-same call) e f g rest
+
   pub first-same : (call : Call) (c d : Command)
       → profile c .own ≡ existing a
       → profile d .own ≡ existing a
@@ -144,10 +155,7 @@ module _ {a : ℕ} {v w : Drive} (p : Pair a v w) where
       → (exists (v .table) a ≡ true
       → firstNo (laterQuestions c v (call asking c)) ≡ firstNo (laterQuestions d w (call asking d)))
       → verdict v (call asking c) ≡ verdict w (call asking d)
-  unfolding questions
-  first-same call c d e f g rest =
-      first-asked (profile c .own) (profile d .own) (profile c .store) (profile d .store) (call asking c) (call asking d)
-      (laterQuestions c v (call asking c)) (laterQuestions d w (call asking d)) (fits-same call) e f g rest
+  first-same call c d e f g rest = first-same-for call (command c) (command d) e f g rest
 
   pub held-same : heldCount (v .table) a ≡ heldCount (w .table) a
   held-same = held-alike (p .alike)
@@ -162,7 +170,7 @@ module _ {a : ℕ} {v w : Drive} (p : Pair a v w) where
   quota-same new = ap₂ (λ (n m : ℕ). leb (n + new) m) held-same (ap (λ (r : Domain). r .quota) (p .alike .domain))
 
 -- What is within the quota of a fully reserved domain is covered, whatever the neighbours hold.
-reserved-covers : (a new : ℕ) (v : Drive) → Course v → reservesAll a v ≡ true → exists (v .table) a ≡ true
+pub reserved-covers : (a new : ℕ) (v : Drive) → Course v → reservesAll a v ≡ true → exists (v .table) a ≡ true
     → withinQuota (v .table) a new ≡ true → coveredAfter (v .table) a new ≡ true
 reserved-covers a new v c whole there within =
     let t = v .table in

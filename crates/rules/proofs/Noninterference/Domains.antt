@@ -17,10 +17,10 @@ use Rattle.model.specs.declared.table.Domain.{Domain}
 use Rattle.rules.specs.Calls.{Call, _asking_}
 use Rattle.rules.specs.Domains.{arePlaneCounts, changedDomain, coveredWith, createdDomain, reservedBy}
 use Rattle.rules.specs.Drive.{Drive, domainAt, heldCount, size}
-use Rattle.rules.specs.Effects.{effect, step, verdict}
+use Rattle.rules.specs.Effects.{effect, questions, step, verdict}
 use Rattle.rules.specs.Noninterference.{staysReserved}
 use Rattle.rules.specs.Observation.{Holding}
-use Rattle.rules.specs.Questions.{exists, questions}
+use Rattle.rules.specs.Questions.{exists}
 use Rattle.rules.specs.Soundness.{sound}
 use Rattle.rules.proofs.Effects.{accepted-drive}
 use Rattle.rules.proofs.Kept.Calls.{Course}

@@ -15,13 +15,13 @@ use Rattle.model.specs.declared.block.Way.the-variants as way
 use Rattle.model.specs.declared.command.Command.the-variants.{Erase}
 use Rattle.model.specs.declared.table.Table.{Table}
 use Rattle.rules.specs.Blocks.{anyBlock, chosenBlock, erasedBlock, freedAt, openedFor}
-use Rattle.rules.specs.Calls.{Call, _asking_}
+use Rattle.rules.specs.Calls.{Call, _asking_, command}
 use Rattle.rules.specs.Counting.{implies}
 use Rattle.rules.specs.Drive.{Drive, blockAt, heldBy, isClosed, isClosedState, isFree, size}
-use Rattle.rules.specs.Effects.{Effect, effect, verdict}
+use Rattle.rules.specs.Effects.{Effect, effect, questions, verdict}
 use Rattle.rules.specs.Noninterference.{namesOwn}
 use Rattle.rules.specs.Observation.{Holding, Holds, Name, Observation, ReadBytes, ReadValues, ReadWords, holdingAt, nameOf}
-use Rattle.rules.specs.Questions.{coveredAfter, isErasable, isErasedAgain, mayErase, newOfErase, questions, withinQuota}
+use Rattle.rules.specs.Questions.{coveredAfter, isErasable, isErasedAgain, mayErase, newOfErase, withinQuota}
 use Rattle.rules.proofs.Kept.Calls.{course-fit}
 use Rattle.rules.proofs.Kept.Changes.{Openable, opened-changed, opened-held}
 use Rattle.rules.proofs.Kept.Erasing.{again-is, again-opens, any-opens}
@@ -53,7 +53,7 @@ opens-held {d} {n} {v} o way =
 -- ---- The questions
 
 module _ {a : ℕ} {v w : Drive} (p : Pair a v w) (call : Call) (n m : ℕ) (same : nameOf a v n ≡ nameOf a w m)
-    (own : namesOwn a v (Erase a n) ≡ true) where
+    (own : namesOwn a v (command (Erase a n)) ≡ true) where
   abbrev t : Table
   t = v .table
 

@@ -25,11 +25,11 @@ either : (b c : Bool) → b || c ≡ false → (b ≡ false) × (c ≡ false)
 either true c e = absurd (true≢false e)
 either false c e = (refl, e)
 
-neighbour : (a : ℕ) (k : Call) (v : Drive) → 1 ≤ a → Course v → concerns a (k .command) ≡ false → Alike a v (step k v)
+pub neighbour : (a : ℕ) (k : Call) (v : Drive) → 1 ≤ a → Course v → concerns a (k .asks) ≡ false → Alike a v (step k v)
 neighbour a k v low c e =
-    let x = either (isPulse (k .command)) (eqb (ownDomain (k .command)) a) e in
+    let x = either (isPulse (k .asks)) (eqb (ownDomain (k .asks)) a) e in
     own-sequel v k (course-fit c k) (x .0) .others a low
-    (λ same. eqb-false (ownDomain (k .command)) a (x .1) (sym same))
+    (λ same. eqb-false (ownDomain (k .asks)) a (x .1) (sym same))
 
 -- ---- What is asked of a list, call by call
 
@@ -45,7 +45,7 @@ begins a x xs v e =
     let e1 = both _ (fullyReserved a (calls xs) (step k v)) e in
     let e2 = both _ (staysReserved a v (step k v)) (e1 .0) in
     let e3 = both _ (reservesAll a (step k v)) (e2 .0) in
-    let e4 = both (notUncovered a v k) (namesOwn a v (k .command)) (e3 .0) in
+    let e4 = both (notUncovered a v k) (namesOwn a v (k .asks)) (e3 .0) in
     record {
       proper = record { covered = e4 .0; names = e4 .1; stays = e2 .1 };
       reserves = e3 .1;
@@ -116,7 +116,7 @@ module _ (a : ℕ) (low : 1 ≤ a) (high : a ≤ 16) where
   unfolding inputs observations run
   all-neighbours [] v w s g e = record { same = refl; alike = s }
   all-neighbours (y ∷ ys) v w s g e =
-      by-test (concerns a (y .call .command))
+      by-test (concerns a (y .call .asks))
       (λ own. absurd (nil≢cons (sym (rw own at e))))
       (λ foreign.
       let r =
@@ -125,7 +125,7 @@ module _ (a : ℕ) (low : 1 ≤ a) (high : a ≤ 16) where
       record { same = rw foreign (r .same); alike = r .alike })
 
   -- An input on the left: the next one on the right is the same, behind neighbours' calls. `on` is the induction for what follows.
-  module _ (x : Exchange) (xs : List Exchange) (v : Drive) (own : concerns a (x .call .command) ≡ true) (g : Given a (x ∷ xs) v)
+  module _ (x : Exchange) (xs : List Exchange) (v : Drive) (own : concerns a (x .call .asks) ≡ true) (g : Given a (x ∷ xs) v)
       (on : (ys : List Exchange) (w : Drive) → Alike a (step (x .call) v) w → Given a ys w
       → inputs a (calls xs) (step (x .call) v) ≡ inputs a (calls ys) w → Result a xs ys (step (x .call) v) w) where
     abbrev here : Input
@@ -135,7 +135,7 @@ module _ (a : ℕ) (low : 1 ≤ a) (high : a ≤ 16) where
     later = inputs a (calls xs) (step (x .call) v)
 
     -- Both are the domain's: the same input.
-    met : (y : Exchange) (ys : List Exchange) (w : Drive) → Alike a v w → Given a (y ∷ ys) w → concerns a (y .call .command) ≡ true
+    met : (y : Exchange) (ys : List Exchange) (w : Drive) → Alike a v w → Given a (y ∷ ys) w → concerns a (y .call .asks) ≡ true
         → here ≡ inputOf a w (y .call)
         → later ≡ inputs a (calls ys) (step (y .call) w)
         → (observed a v (x .call) (x .reply) ≡ observed a w (y .call) (y .reply)) × Result a xs ys (step (x .call) v) (step (y .call) w)
@@ -154,7 +154,7 @@ module _ (a : ℕ) (low : 1 ≤ a) (high : a ≤ 16) where
     unfolding inputs observations run
     next-input [] w s h e = absurd (nil≢cons (sym e))
     next-input (y ∷ ys) w s h e =
-        by-test (concerns a (y .call .command))
+        by-test (concerns a (y .call .asks))
         (λ own'.
         let q = rw own' at e in
         let r = met y ys w s h own' (same-first _ _ _ _ q) (same-rest _ _ _ _ q) in
@@ -169,7 +169,7 @@ module _ (a : ℕ) (low : 1 ≤ a) (high : a ≤ 16) where
   unfolding inputs observations run
   both-lists [] ys v w s g h e = all-neighbours ys v w s h (sym e)
   both-lists (x ∷ xs) ys v w s g h e =
-      by-test (concerns a (x .call .command))
+      by-test (concerns a (x .call .asks))
       (λ own.
       next-input x xs v own g
       (λ zs u s' h' e'. both-lists xs zs (step (x .call) v) u s' (given-next a x xs v g) h' e')

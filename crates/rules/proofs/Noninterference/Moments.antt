@@ -89,7 +89,7 @@ unfolding inputs
 inputs-take a zero xs v = refl
 inputs-take a (suc i) [] v = refl
 inputs-take a (suc i) (x ∷ xs) v =
-    by-test (concerns a (x .call .command))
+    by-test (concerns a (x .call .asks))
     (λ own. rw own (ap (λ (l : List Input). inputOf a v (x .call) ∷ l) (inputs-take a i xs (step (x .call) v))))
     (λ foreign. rw foreign (inputs-take a i xs (step (x .call) v)))
 

@@ -17,12 +17,12 @@ use Rattle.model.specs.declared.command.Listed.{Listed}
 use Rattle.model.specs.declared.command.Listed.the-variants as listed
 use Rattle.rules.specs.Blocks.{matches, stored}
 use Rattle.rules.specs.Calls.{Call, _asking_, listBytes}
-use Rattle.rules.specs.Drive.{Drive, blockAt, heldBy, size}
-use Rattle.rules.specs.Effects.{Fills, effect, verdict}
+use Rattle.rules.specs.Drive.{Drive, blockAt, entriesOf, heldBy, size}
+use Rattle.rules.specs.Effects.{Fills, effect, questions, verdict}
 use Rattle.rules.specs.LogPages.{listedCount, page}
-use Rattle.rules.specs.Observation.{Descriptor, Holding, Observation, ReadBytes, ReadValues, ReadWords, entriesOf, holdingAt, nameOf}
+use Rattle.rules.specs.Observation.{Descriptor, Holding, Observation, ReadBytes, ReadValues, ReadWords, holdingAt, nameOf}
 use Rattle.rules.specs.Observation.{readList, readPage, timesListed}
-use Rattle.rules.specs.Questions.{isCount, isHeld, questions}
+use Rattle.rules.specs.Questions.{isCount, isHeld}
 use Rattle.rules.proofs.Kept.Calls.{Course}
 use Rattle.rules.proofs.Kept.Entries.{stored-entries}
 use Rattle.rules.proofs.Kept.Facts.{written-most}
@@ -37,7 +37,7 @@ use Rattle.rules.proofs.Writes.{Ready}
 -- ---- A drive in the course of a list of calls
 
 module _ (v : Drive) (c : Course v) where
-  course-ready : Ready (v .table .config) v
+  pub course-ready : Ready (v .table .config) v
   course-ready = record { shape = refl; blocks = omega (arith, c .shaped .blocks, few-blocks (c .facts)); store = c .store }
 
   -- What is written of a block and read stands in its entries.
@@ -58,7 +58,7 @@ module _ (v : Drive) (c : Course v) where
 abbrev bytesTold : ReadBytes → Observation
 bytesTold bytes = record { number = 0; values = ReadValues.numbers []; words = ReadWords.plain []; bytes = bytes }
 
-abbrev wordsTold : List ℕ → Observation
+abbrev pub wordsTold : List ℕ → Observation
 wordsTold words = record { number = 0; values = ReadValues.numbers []; words = ReadWords.plain words; bytes = ReadBytes.plain [] }
 
 module _ {a : ℕ} {v w : Drive} (p : Pair a v w) (call : Call) where

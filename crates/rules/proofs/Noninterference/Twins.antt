@@ -9,7 +9,7 @@ use borrow.Author.Tests.{eqb-true}
 use Rattle.geometry.proofs.Laws.Shape.{by-test}
 use Rattle.geometry.specs.Questions.{Question, answered, ask, firstNo, refusal, success}
 use Rattle.rules.specs.Calls.{BytesDue, Call, Profile, Values, WordsDue, addressWords, blocksAfter, blocksBefore, counts, listBytes}
-use Rattle.rules.specs.Calls.{noBytes, noWords, pageBytes, profile, userWords}
+use Rattle.rules.specs.Calls.{noBytes, noWords, pageBytes, profileOf, userWords}
 use Rattle.rules.specs.Drive.{Drive}
 use Rattle.rules.specs.Effects.{Fills, FillsIf, accepted, effect, step, verdict, wordsFilled}
 use Rattle.rules.specs.Observation.{Observation, ReadBytes, ReadValues, ReadWords, Replies, Reply, observed, readBytes}
@@ -28,7 +28,7 @@ ask-same n b c qs rs same rest =
 -- What a reply to an accepted call reads as.
 abbrev pub told : ℕ → Drive → Call → List ℕ → Observation
 told a v k bytes =
-    let p = profile (k .command) in
+    let p = profileOf (k .asks) in
     let x = effect v k in
     record {
       number = 0;
@@ -80,17 +80,17 @@ no-bytes (listBytes d which) a u = refl
 
 -- The same request in two drives: the same verdict, a refusal reads the same, and if it is accepted the same is told and left.
 pub record Twin (a : ℕ) (v w : Drive) (k l : Call) : Type 0 where
-  pub reading : refusedAs (profile (k .command)) ≡ refusedAs (profile (l .command))
+  pub reading : refusedAs (profileOf (k .asks)) ≡ refusedAs (profileOf (l .asks))
   pub verdicts : verdict v k ≡ verdict w l
   pub after : verdict v k ≡ 0 → verdict w l ≡ 0 → Alike a (effect v k .drive) (effect w l .drive)
   pub telling : verdict v k ≡ 0 → verdict w l ≡ 0
-      → (bytes other : List ℕ) → Fills (profile (k .command) .bytes) (v .table) bytes → Fills (profile (l .command) .bytes) (w .table) other
+      → (bytes other : List ℕ) → Fills (profileOf (k .asks) .bytes) (v .table) bytes → Fills (profileOf (l .asks) .bytes) (w .table) other
       → told a v k bytes ≡ told a w l other
 
 -- What the rules reply to a refused and to an accepted call.
 module _ (a : ℕ) (v : Drive) (k : Call) (r : Reply) (replies : Replies v k r) where
   abbrev p : Profile
-  p = profile (k .command)
+  p = profileOf (k .asks)
 
   refused-read : accepted v k ≡ false → observed a v k r ≡ refusedAs p (verdict v k)
   unfolding observed wordsFilled answered

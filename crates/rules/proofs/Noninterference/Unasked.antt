@@ -14,9 +14,9 @@ use Rattle.rules.specs.Noninterference.{namesOwn, isAllowed, notUncovere
 use Rattle.rules.proofs.Runs.{follows}
 
 -- A call leaves the record of every domain but its own.
-record-stays : (a : ℕ) (k : Call) (v : Drive) → 1 ≤ a → eqb (ownDomain (k .command)) a ≡ false
+record-stays : (a : ℕ) (k : Call) (v : Drive) → 1 ≤ a → eqb (ownDomain (k .asks)) a ≡ false
     → domainAt (step k v .table) a ≡ domainAt (v .table) a
-record-stays a k v low e = follows v k .others a low (eqb-false (ownDomain (k .command)) a e)
+record-stays a k v low e = follows v k .others a low (eqb-false (ownDomain (k .asks)) a e)
 
 same-stays : (r : Domain) → implies (r .exists) (r .exists && eqb (r .reserved) (r .reserved) && eqb (r .quota) (r .quota)) ≡ true
 same-stays r =
@@ -24,12 +24,12 @@ same-stays r =
     (λ e. rw (e, eq-eqb (r .reserved) (r .reserved) refl, eq-eqb (r .quota) (r .quota) refl))
     (λ e. rw e)
 
-pub unasked : (a : ℕ) (k : Call) (v : Drive) → 1 ≤ a → eqb (ownDomain (k .command)) a ≡ false → reservesAll a v ≡ true
+pub unasked : (a : ℕ) (k : Call) (v : Drive) → 1 ≤ a → eqb (ownDomain (k .asks)) a ≡ false → reservesAll a v ≡ true
     → isAllowed a v k ≡ true
 unasked a k v low e all =
     let same = record-stays a k v low e in
     let covered : notUncovered a v k ≡ true = rw e in
-    let names : namesOwn a v (k .command) ≡ true = rw e in
+    let names : namesOwn a v (k .asks) ≡ true = rw e in
     let reserves : reservesAll a (step k v) ≡ true =
     subst (λ (r : Domain). implies (r .exists) (eqb (r .reserved) (r .quota)) ≡ true) (sym same) all in
     let stays : staysReserved a v (step k v) ≡ true =

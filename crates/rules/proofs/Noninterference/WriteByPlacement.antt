@@ -1,6 +1,6 @@
 -- The same Write by placement in two drives that the domain cannot tell apart.
 use Prim.Native.Nat.{ℕ, zero, suc, _+_, _-_, _/_, _≤_, _<_}
-use mathlib.Core.Bool.{true, true≢false, _&&_}
+use mathlib.Core.Bool.{Bool, true, true≢false, _&&_}
 use mathlib.Core.List.{List, [], _++_, map}
 use mathlib.Core.Option.{Option, none, some}
 use mathlib.Core.Path.{_≡_, refl, sym, ap, ap₂, _∙_, subst}
@@ -9,6 +9,7 @@ use lib.Dec.{ltb}
 use lib.ListN.{drop, length, take}
 use borrow.Author.Tests.{eqb-true}
 use Rattle.geometry.proofs.Laws.Shape.{limits}
+use Rattle.geometry.specs.Questions.{firstNo}
 use Rattle.geometry.specs.Shape.{adusPerBlock, withinLimits}
 use Rattle.geometry.specs.declared.shape.Adus.{Adus}
 use Rattle.geometry.specs.declared.shape.Config.{Config}
@@ -21,7 +22,7 @@ use Rattle.rules.specs.Calls.{Call, _asking_}
 use Rattle.rules.specs.Drive.{Drive, blockAt, heldBy, isPlacedState, openBlock, size}
 use Rattle.rules.specs.Effects.{effect, verdict}
 use Rattle.rules.specs.Observation.{Address, Holding, Holds, addressOf, holdingAt, nameOf}
-use Rattle.rules.specs.Questions.{coveredAfter, isCount, mayOpenFor, serialsLeft, withinQuota}
+use Rattle.rules.specs.Questions.{coveredAfter, exists, isCount, mayOpenFor, placementQuestions, serialsLeft, withinQuota}
 use Rattle.rules.proofs.Kept.Asked.{placement-asked}
 use Rattle.rules.proofs.Kept.Calls.{course-fit}
 use Rattle.rules.proofs.Kept.Changes.{Writable, opened-changed, written-changed}
@@ -245,20 +246,28 @@ module _ {a : ℕ} {v w : Drive} (p : Pair a v w) (k : ℕ) where
       (p .alike .config) (room-from found found' open-same)
 
   module _ (call : Call) (start : ℕ) (count : Adus) where
-    placement-verdicts : verdict v (call asking WriteByPlacement a k start count) ≡ verdict w (call asking WriteByPlacement a k start count)
-    placement-verdicts =
+    -- The same first no, also where a shape of the domain is asked for besides, ..
+    pub later-same : (shaped shaped' : Bool) → shaped ≡ shaped' → exists (v .table) a ≡ true
+        → firstNo (placementQuestions shaped a k start count v call) ≡ firstNo (placementQuestions shaped' a k start count w call)
+    later-same shaped shaped' same e5 =
         let new = newBlocks (v .table) a k (count .0) in
         let new' = newBlocks (w .table) a k (count .0) in
         let news = new-same (count .0) in
-        first-same p call (WriteByPlacement a k start count) (WriteByPlacement a k start count) refl refl refl (λ e5.
-        ask-same _ _ _ _ _ (ap (λ (r : Domain). ltb k (r .placements) && isCount count) (p .alike .domain)) (λ e6.
+        ask-same _ _ _ _ _
+        (ap₂ (λ (s : Bool) (r : Domain). s && ltb k (r .placements) && isCount count) same (p .alike .domain)) (λ e6.
         ask-same _ _ _ _ _ refl (λ e7.
         ask-same _ _ _ _ _ refl (λ e8.
         ask-same _ _ _ _ _ (may-from found found' open-same) (λ e11.
         ask-same _ _ _ _ _ (serials-same p new ∙ ap (λ (x : ℕ). serialsLeft (w .table) a x) news) (λ e12.
         ask-same _ _ _ _ _ (quota-same p new ∙ ap (λ (x : ℕ). withinQuota (w .table) a x) news) (λ e13.
         ask-same _ _ _ _ _ (covered-same p new e5 e13 ∙ ap (λ (x : ℕ). coveredAfter (w .table) a x) news) (λ e14.
-        refl))))))))
+        refl)))))))
+
+    -- .. so that the write gets the same.
+    pub placement-verdicts : verdict v (call asking WriteByPlacement a k start count) ≡ verdict w (call asking WriteByPlacement a k start count)
+    placement-verdicts =
+        first-same p call (WriteByPlacement a k start count) (WriteByPlacement a k start count) refl refl refl (λ e5.
+        later-same true true refl e5)
 
     abbrev users : List ℕ
     users = userAddresses start (count .0)
@@ -348,11 +357,11 @@ module _ {a : ℕ} {v w : Drive} (p : Pair a v w) (k : ℕ) where
           (subst (Same a (join (firstOf a found users v) (restOf a k found users v))) (sym (placement-is a k users w found' refl))
           (by-found found found' refl refl open-same))
 
-      placement-alike : Alike a (effect v (call asking WriteByPlacement a k start count) .drive) (effect w (call asking WriteByPlacement a k start count) .drive)
+      pub placement-alike : Alike a (effect v (call asking WriteByPlacement a k start count) .drive) (effect w (call asking WriteByPlacement a k start count) .drive)
       unfolding effect
       placement-alike = placement-same .alike
 
-      placement-told : (bytes other : List ℕ) → bytes ≡ [] → other ≡ []
+      pub placement-told : (bytes other : List ℕ) → bytes ≡ [] → other ≡ []
           → told a v (call asking WriteByPlacement a k start count) bytes ≡ told a w (call asking WriteByPlacement a k start count) other
       unfolding effect
       placement-told bytes other b o = rw (b, o) (ap (λ (l : List Address). addressesTold l) (placement-same .read))

@@ -8,8 +8,7 @@ use Rattle.model.specs.Blocks.{freed}
 use Rattle.model.specs.declared.answer.Answer.the-variants as given
 use Rattle.model.specs.declared.command.Command.the-variants.{Free}
 use Rattle.rules.specs.Drive.{blockAt}
-use Rattle.rules.specs.Effects.{effect}
-use Rattle.rules.specs.Questions.{questions}
+use Rattle.rules.specs.Effects.{effect, questions}
 use Rattle.survey.proofs.Outcomes.{changed-outcome, later-outcome, unsound-outcome}
 use Rattle.survey.proofs.Seeing.{changed-block, sound-limits}
 use Rattle.tables.specs.Changing.{blockChange}

@@ -21,8 +21,8 @@ abbrev μ-loop : tie.MeasureT-loop
 μ-loop text store₀ words₀ bytes₀ wanted-store₀ wanted-words₀ wanted-bytes₀ desk₀ at₀ store words bytes wanted-store wanted-words wanted-bytes desk at =
     length text - at
 
--- A line ends within the text, which is at most 65,536 bytes long.
-ends : (c : tie.After-line-end Inv-loop μ-loop) → c .line-end .result ≤ 65536
+-- A line ends within the text, which is at most 131,072 bytes long.
+ends : (c : tie.After-line-end Inv-loop μ-loop) → c .line-end .result ≤ 131072
 ends c = le-trans (c .line-end .ensures .1 .1) (c .before .before .before .before .before .before .before .before .before .before .before .before .pre)
 
 -- Where the line's end was found, from where its rows are back.

@@ -10,8 +10,7 @@ use Rattle.geometry.specs.Address.{isDomainId}
 use Rattle.geometry.specs.Questions.{ask}
 use Rattle.model.specs.declared.answer.Answer.the-variants.{Done}
 use Rattle.model.specs.declared.command.Command.the-variants.{Delete}
-use Rattle.rules.specs.Effects.{effect}
-use Rattle.rules.specs.Questions.{questions}
+use Rattle.rules.specs.Effects.{effect, questions}
 use Rattle.survey.proofs.Outcomes.{changed-outcome, later-outcome, unsound-outcome}
 use Rattle.survey.proofs.Seeing.{changed-deletion, sound-limits}
 use Rattle.tables.specs.Changing.{deletionOf}

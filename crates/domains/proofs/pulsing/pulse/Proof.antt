@@ -7,8 +7,7 @@ use Rattle.geometry.specs.Questions.{firstNo}
 use Rattle.model.specs.declared.answer.Answer.the-variants.{Done}
 use Rattle.model.specs.declared.answer.Refusal.the-variants.{Range}
 use Rattle.model.specs.declared.command.Command.the-variants.{Pulse}
-use Rattle.rules.specs.Effects.{effect}
-use Rattle.rules.specs.Questions.{questions}
+use Rattle.rules.specs.Effects.{effect, questions}
 use Rattle.survey.proofs.Outcomes.{changed-outcome, later-outcome, unsound-outcome}
 use Rattle.survey.proofs.Seeing.{changed-pulse, sound-limits}
 use Rattle.tables.specs.Changing.{pulseChange}

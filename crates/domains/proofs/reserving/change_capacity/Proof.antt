@@ -9,8 +9,7 @@ use Rattle.geometry.specs.Shape.{withinLimits}
 use Rattle.model.specs.declared.command.Command.the-variants.{ChangeCapacity}
 use Rattle.rules.specs.Calls.{calling}
 use Rattle.rules.specs.Domains.{changedDomain}
-use Rattle.rules.specs.Effects.{effect}
-use Rattle.rules.specs.Questions.{questions}
+use Rattle.rules.specs.Effects.{effect, questions}
 use Rattle.survey.proofs.Outcomes.{later-outcome, unsound-outcome}
 use Rattle.survey.proofs.Seeing.{held-seen, limits-seen}
 use Rattle.tables.proofs.Answering.{first-part}

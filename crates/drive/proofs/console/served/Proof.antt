@@ -5,8 +5,8 @@ use borrow.Author.Needs.{needs}
 use Rattle.drive.proofs.console.served.Statement.{statement}
 use Rattle.drive.proofs.console.served.Tie as tie
 
-store-length-requires : tie.Need-store-length-requires
-store-length-requires c κs = search needs
+lent-store-requires : tie.Need-lent-store-requires
+lent-store-requires c κs = search needs
 
 lent-requires : tie.Need-lent-requires
 lent-requires c κs = search needs
@@ -14,26 +14,23 @@ lent-requires c κs = search needs
 lent-requires-2 : tie.Need-lent-requires-2
 lent-requires-2 c κs = search needs
 
-lent-requires-3 : tie.Need-lent-requires-3
-lent-requires-3 c κs = search needs
-
 slice-relend-prefix-serve : tie.Need-slice-relend-prefix-serve
 slice-relend-prefix-serve c = search needs
 
 slice-aggregate-serve : tie.Need-slice-aggregate-serve
-slice-aggregate-serve c = sym (length-take-le (c .before .before .before .lent .result) _ (c .before .before .before .lent .ensures))
+slice-aggregate-serve c = sym (length-take-le (c .before .before .before .lent-store .result) _ (c .before .before .before .lent-store .ensures))
 
 slice-relend-prefix-serve-2 : tie.Need-slice-relend-prefix-serve-2
 slice-relend-prefix-serve-2 c = search needs
 
 slice-aggregate-serve-2 : tie.Need-slice-aggregate-serve-2
-slice-aggregate-serve-2 c = sym (length-take-le (c .before .before .before .lent2 .result) _ (c .before .before .before .lent2 .ensures))
+slice-aggregate-serve-2 c = sym (length-take-le (c .before .before .before .lent .result) _ (c .before .before .before .lent .ensures))
 
 slice-relend-prefix-serve-3 : tie.Need-slice-relend-prefix-serve-3
 slice-relend-prefix-serve-3 c = search needs
 
 slice-aggregate-serve-3 : tie.Need-slice-aggregate-serve-3
-slice-aggregate-serve-3 c = sym (length-take-le (c .before .before .before .lent3 .result) _ (c .before .before .before .lent3 .ensures))
+slice-aggregate-serve-3 c = sym (length-take-le (c .before .before .before .lent2 .result) _ (c .before .before .before .lent2 .ensures))
 
 serve-requires : tie.Need-serve-requires
 serve-requires c κs = search needs
@@ -63,10 +60,9 @@ pub served-spec : {M : Type 1} → statement M
 served-spec =
     tie.close
     (tie.spec
-    store-length-requires
+    lent-store-requires
     lent-requires
     lent-requires-2
-    lent-requires-3
     slice-relend-prefix-serve
     slice-aggregate-serve
     slice-relend-prefix-serve-2

@@ -25,7 +25,7 @@ number-but-second second n (suc (suc i)) other l = sym (getD-replicate n i Numbe
 
 -- The places of the other keywords in their enum.
 abbrev others : List ℕ
-others = 0 ∷ 1 ∷ 2 ∷ 3 ∷ 5 ∷ 6 ∷ 8 ∷ 9 ∷ 11 ∷ 12 ∷ 13 ∷ 15 ∷ []
+others = 0 ∷ 1 ∷ 2 ∷ 3 ∷ 5 ∷ 6 ∷ 8 ∷ 9 ∷ 11 ∷ 12 ∷ 13 ∷ 15 ∷ 16 ∷ 17 ∷ []
 
 -- They have numbers only.
 number-at : (k : Keyword) (i : ℕ) → i < length (form k) → OneOf others (tagOf the-type k) → Number ≡ getD (form k) i LineEnd
@@ -45,6 +45,8 @@ number-at keyword.Make i l t = sym (getD-replicate 6 i Number LineEnd l)
 number-at keyword.Take i l t = sym (getD-replicate 1 i Number LineEnd l)
 number-at keyword.Lend i l t = absurd (miss others (tagOf the-type keyword.Lend) tt t)
 number-at keyword.Show i l t = sym (getD-replicate 0 i Number LineEnd l)
+number-at keyword.Append i l t = sym (getD-replicate 2 i Number LineEnd l)
+number-at keyword.Latest i l t = sym (getD-replicate 2 i Number LineEnd l)
 
 enum-told : tie.Need-enum-told
 enum-told c = search needs

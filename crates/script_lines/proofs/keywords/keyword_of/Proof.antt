@@ -100,9 +100,23 @@ slice-aggregate-named-keyword-16 c = search needs
 named-keyword-requires-16 : tie.Need-named-keyword-requires-16
 named-keyword-requires-16 c κs = search needs
 
+slice-aggregate-named-keyword-17 : tie.Need-slice-aggregate-named-keyword-17
+slice-aggregate-named-keyword-17 c = search needs
+
+named-keyword-requires-17 : tie.Need-named-keyword-requires-17
+named-keyword-requires-17 c κs = search needs
+
+slice-aggregate-named-keyword-18 : tie.Need-slice-aggregate-named-keyword-18
+slice-aggregate-named-keyword-18 c = search needs
+
+named-keyword-requires-18 : tie.Need-named-keyword-requires-18
+named-keyword-requires-18 c κs = search needs
+
 returns : tie.Need-returns
 returns c =
-    let p15 = c .before .before in
+    let p17 = c .before .before in
+    let p16 = p17 .before .before in
+    let p15 = p16 .before .before in
     let p14 = p15 .before .before in
     let p13 = p14 .before .before in
     let p12 = p13 .before .before in
@@ -134,7 +148,9 @@ returns c =
     then p13 .named-keyword13 .ensures
     then p14 .named-keyword14 .ensures
     then p15 .named-keyword15 .ensures
-    then c .named-keyword16 .ensures
+    then p16 .named-keyword16 .ensures
+    then p17 .named-keyword17 .ensures
+    then c .named-keyword18 .ensures
     )
 
 pub keyword-of-spec : {M : Type 1} → statement M
@@ -173,4 +189,8 @@ keyword-of-spec =
     named-keyword-requires-15
     slice-aggregate-named-keyword-16
     named-keyword-requires-16
+    slice-aggregate-named-keyword-17
+    named-keyword-requires-17
+    slice-aggregate-named-keyword-18
+    named-keyword-requires-18
     returns)

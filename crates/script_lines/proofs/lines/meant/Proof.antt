@@ -92,6 +92,12 @@ length-of-requires c κs = search needs
 enum-told-16 : tie.Need-enum-told-16
 enum-told-16 c = search needs
 
+enum-told-17 : tie.Need-enum-told-17
+enum-told-17 c = search needs
+
+enum-told-18 : tie.Need-enum-told-18
+enum-told-18 c = search needs
+
 returns : tie.Need-returns
 unfolding meaning
 returns c = for-keyword _ (c .enum-told .given .1)
@@ -156,6 +162,14 @@ returns-16 : tie.Need-returns-16
 unfolding meaning
 returns-16 c = for-keyword _ (c .enum-told16 .given .1)
 
+returns-17 : tie.Need-returns-17
+unfolding meaning
+returns-17 c = for-keyword _ (c .enum-told17 .given .1)
+
+returns-18 : tie.Need-returns-18
+unfolding meaning
+returns-18 c = for-keyword _ (c .enum-told18 .given .1)
+
 pub meant-spec : {M : Type 1} → statement M
 meant-spec =
     tie.close
@@ -187,6 +201,8 @@ meant-spec =
     buffer-of-requires
     length-of-requires
     enum-told-16
+    enum-told-17
+    enum-told-18
     returns
     returns-2
     returns-3
@@ -202,4 +218,6 @@ meant-spec =
     returns-13
     returns-14
     returns-15
-    returns-16)
+    returns-16
+    returns-17
+    returns-18)

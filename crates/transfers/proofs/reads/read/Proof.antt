@@ -16,7 +16,7 @@ use Rattle.model.specs.declared.command.Command.the-variants.{Read}
 use Rattle.model.specs.declared.table.Table.{Table}
 use Rattle.rules.proofs.Questions.{after, before}
 use Rattle.rules.specs.Calls.{calling}
-use Rattle.rules.specs.Questions.{questions}
+use Rattle.rules.specs.Effects.{questions}
 use Rattle.survey.proofs.Seeing.{limits-seen}
 use Rattle.survey.specs.Sight.{Sees, SeesBlock}
 use Rattle.tables.proofs.Answering.{unsound-call}

@@ -1,4 +1,4 @@
--- The table of the row is served, and the row holds the table that `serve` hands back; a row that is too short is left as it is.
+-- The table of the row is served, and the row holds the table that `ask` hands back; a row that is too short is left as it is.
 use mathlib.Core.Path.{refl}
 use native.Mathlib.Omega.{arith}
 use borrow.Author.Needs.{needs}
@@ -12,11 +12,11 @@ returns c = record { called = λ l. absurd (omega arith); refused = λ l. (refl,
 table-in-requires : tie.Need-table-in-requires
 table-in-requires c κs = search needs
 
-command-of-requires : tie.Need-command-of-requires
-command-of-requires c κs = search needs
+request-of-requires : tie.Need-request-of-requires
+request-of-requires c κs = search needs
 
-serve-requires : tie.Need-serve-requires
-serve-requires c κs = search needs
+ask-requires : tie.Need-ask-requires
+ask-requires c κs = search needs
 
 put-table-requires : tie.Need-put-table-requires
 put-table-requires c κs = search needs
@@ -39,7 +39,7 @@ same-length-4 c = search needs
 returns-2 : tie.Need-returns-2
 returns-2 c =
     let p = c .before .before .before .before .before .before .before .before .before .before .before .before in
-    let s = p .serve in
+    let s = p .ask in
     let h = p .before .before .before .before in
     let z = h .before .before .before .before .before .before .before .before .args in
     record {
@@ -47,7 +47,7 @@ returns-2 c =
         answer = s .result .answer;
         table = s .result .table;
         left = lending (z .row .now) (s .last .1 .1 .0) (s .last .1 .1 .1 .0) (s .last .1 .1 .1 .1 .0);
-        call = record { serves = rw (h .before .table-in .ensures, h .command-of .ensures) at (s .ensures); same-row = refl };
+        call = record { serves = rw (h .before .table-in .ensures, h .request-of .ensures) at (s .ensures); same-row = refl };
         told = c .answer-number .ensures;
         held = rw (c .before .before .before .put-table .ensures);
       };
@@ -60,8 +60,8 @@ trial-serve-spec =
     (tie.spec
     returns
     table-in-requires
-    command-of-requires
-    serve-requires
+    request-of-requires
+    ask-requires
     put-table-requires
     answer-number-requires
     same-length

@@ -54,9 +54,9 @@ use borrow.Table.OneValue.{part-out, part-in}
 use Rattle.model.specs.declared.table.Table.{Table}
 use Rattle.model.proofs.table.Table as table
 use Rattle.model.proofs.table.Table.Laws as table-laws
-use Rattle.manager.proofs.serve_in.Met as serve-met
 use Rattle.trial.specs.declared.running.Finished.{Finished}
-use Rattle.trial.proofs.commands.command_in.Met as command-met
+use Rattle.trial.proofs.asking.ask_in.Met as ask-met
+use Rattle.trial.proofs.commands.request_in.Met as request-met
 use Rattle.trial.proofs.running.next_place.Met as next-met
 use Rattle.trial.proofs.running.sum_with.Met as sum-met
 use Rattle.trial.proofs.running.Finished as finished
@@ -66,8 +66,8 @@ use Rattle.trial.proofs.running.run.Code as code
 use Rattle.trial.proofs.running.run.Code.Mir.{turn-1, t-6}
 use Rattle.trial.proofs.running.run.Key.{name}
 use Rattle.trial.proofs.running.run.Statement.{statement}
-use Rattle.trial.proofs.running.run.Proof.Calls.{command-name, command-routine, next-name, next-routine, serve-name, serve-routine, sum-name, sum-routine}
-use Rattle.trial.proofs.running.run.Proof.Calls.{CommandIn, NextPlace, ServeIn, SumWith, slice}
+use Rattle.trial.proofs.running.run.Proof.Calls.{request-name, request-routine, next-name, next-routine, ask-name, ask-routine, sum-name, sum-routine}
+use Rattle.trial.proofs.running.run.Proof.Calls.{RequestIn, NextPlace, AskIn, SumWith, slice}
 use Rattle.trial.proofs.running.run.Proof.Frame.{En, localTypes, homes, locals-are, place, holds, rooms, dies, frame-in, frame-out}
 use Rattle.trial.proofs.running.run.Proof.Slices.{Slice, Elements, Opened, opens, closes}
 use Rattle.trial.proofs.running.run.Proof.Rounds.{Turn, first, Fits, Came, came-first, came-next, came-last}
@@ -140,7 +140,7 @@ module _ {M : Type 1} (𝓤 : URA M) (H : Heap 𝓤) (A : Atoms 𝓤) (W : Given
         nothing ! $ fjoin ! $ nothing ! $ fjoin ! $ nothing ! $ fjoin ! $ done !
 
   -- The whole code.
-  module _ (𝓣 : Tables 𝓤 H) (known-command : Triple 𝓤 (𝓣 .C command-name) (CommandIn 𝓤 H A W mem″ run)) (known-serve : Triple 𝓤 (𝓣 .C serve-name) (ServeIn 𝓤 H A W mem″ run))
+  module _ (𝓣 : Tables 𝓤 H) (known-request : Triple 𝓤 (𝓣 .C request-name) (RequestIn 𝓤 H A W mem″ run)) (known-ask : Triple 𝓤 (𝓣 .C ask-name) (AskIn 𝓤 H A W mem″ run))
       (known-sum : Triple 𝓤 (𝓣 .C sum-name) (SumWith 𝓤 H A W mem″ run)) (known-next : Triple 𝓤 (𝓣 .C next-name) (NextPlace 𝓤 H A W mem″ run))
       (is-t : Is table.the-row t (v ∷ [])) (rounds-fit : rounds < 2 ^ 64) (enough : 6 ≤ length (commands .now)) (commands-fit : length (commands .now) < 2 ^ 64)
       (store-room : Room u64 (length (store .now))) (words-room : Room u64 (length (words .now))) (bytes-room : Room u8 (length (bytes .now))) where
@@ -216,7 +216,7 @@ module _ {M : Type 1} (𝓤 : URA M) (H : Heap 𝓤) (A : Atoms 𝓤) (W : Given
       turn-at : (c : ℕ) (s : Turn) → Facts c s → ent 𝓤 (⋆ 𝓤 H A (State s)) (Wp 𝓤 H (𝓣 .C) (𝓣 .Λ) (En 𝓤 H bs) turn-1 (afterTurn 𝓤 H (Below c) Left))
       turn-at zero s f = ends s (Below zero) f
       turn-at (suc c) s f =
-          more 𝓤 H A W mem″ run 𝓣 bs κ₀ κ₁ κ₂ κ₃ q₀ q₁ q₂ q₃ v rounds commands store words bytes known-command known-serve known-sum known-next
+          more 𝓤 H A W mem″ run 𝓣 bs κ₀ κ₁ κ₂ κ₃ q₀ q₁ q₂ q₃ v rounds commands store words bytes known-request known-ask known-sum known-next
           rounds-fit enough commands-fit store-room words-room bytes-room s (Below (suc c)) Left (omega (arith, f .1 .counts)) (f .0)
           (λ a u fit m. below (suc c) c u (omega arith) (fit, came-next rounds (commands .now) (store .now) (words .now) (bytes .now) t c s a u (f .1) m))
 
@@ -270,7 +270,7 @@ module _ {M : Type 1} (𝓤 : URA M) (H : Heap 𝓤) (A : Atoms 𝓤) (W : Given
         Rest E = aim 𝓤 H (params′ E passed (runs (𝓣 .C) (𝓣 .Λ) E (code.function .body) (atRet E Post)))
 
 module _ {M : Type 1} (𝓤 : URA M) (H : Heap 𝓤) (A : Atoms 𝓤) (W : Given 𝓤 H A) (mem″ : Memory → SProp 𝓤) (run : Routine → Fun 𝓤) (𝓣 : Tables 𝓤 H)
-    (known-command : Triple 𝓤 (𝓣 .C command-name) (CommandIn 𝓤 H A W mem″ run)) (known-serve : Triple 𝓤 (𝓣 .C serve-name) (ServeIn 𝓤 H A W mem″ run))
+    (known-request : Triple 𝓤 (𝓣 .C request-name) (RequestIn 𝓤 H A W mem″ run)) (known-ask : Triple 𝓤 (𝓣 .C ask-name) (AskIn 𝓤 H A W mem″ run))
     (known-sum : Triple 𝓤 (𝓣 .C sum-name) (SumWith 𝓤 H A W mem″ run)) (known-next : Triple 𝓤 (𝓣 .C next-name) (NextPlace 𝓤 H A W mem″ run)) where
   -- The walk at every choice of arguments, and the contract that it meets.
   walks : Walks 𝓤 H A running.ended stayed (WpFn 𝓤 H (𝓣 .C) (𝓣 .Λ) code.function) (running.clauses 𝓤 H A mem″ run)
@@ -288,7 +288,7 @@ module _ {M : Type 1} (𝓤 : URA M) (H : Heap 𝓤) (A : Atoms 𝓤) (W : Given
       ))
       (λ κs qs bounds a g are. needs 𝓤 _ _ (λ asked.
       body 𝓤 H A W mem″ run (κs .0) (κs .1 .0) (κs .1 .1 .0) (κs .1 .1 .1 .0) (qs .0) (qs .1 .0) (qs .1 .1 .0) (qs .1 .1 .1 .0)
-      (a .0) (a .1 .0) (a .1 .1 .0) (a .1 .1 .1 .0) (a .1 .1 .1 .1 .0) (a .1 .1 .1 .1 .1 .0) 𝓣 known-command known-serve known-sum known-next
+      (a .0) (a .1 .0) (a .1 .1 .0) (a .1 .1 .1 .0) (a .1 .1 .1 .1 .0) (a .1 .1 .1 .1 .1 .0) 𝓣 known-request known-ask known-sum known-next
       (are .0) (are .1 .0 .1) asked (are .1 .1 .0 .0 .1 .0) (are .1 .1 .1 .0 .0 .1) (are .1 .1 .1 .1 .0 .0 .1) (are .1 .1 .1 .1 .1 .0 .0 .1)))
 
   meets : Meets 𝓤 H A running.signature (WpFn 𝓤 H (𝓣 .C) (𝓣 .Λ) code.function) (running.spec 𝓤 H A mem″ run)
@@ -310,8 +310,8 @@ run-spec 𝓤 H 𝓜 𝓖 𝓡 =
     entered 𝓤 H (tripleOf 𝓤 H (𝓖 .A) running.signature (running.spec 𝓤 H (𝓖 .A) (𝓜 .mem) (𝓡 .run)))
     (tables 𝓤 H 𝓜 𝓡 code.env .C) (tables 𝓤 H 𝓜 𝓡 code.env .Λ) name code.function (code.unfolded 𝓤 H 𝓜 𝓡)
     (meets 𝓤 H (𝓖 .A) W (𝓜 .mem) (𝓡 .run) (tablesOf 𝓤 H 𝓜 (tables 𝓤 H 𝓜 𝓡 code.env))
-    (cited 𝓤 H (CommandIn 𝓤 H (𝓖 .A) W (𝓜 .mem) (𝓡 .run)) 𝓜 𝓡 code.env command-name command-routine code.calls-trial·commands·command-in (command-met.met 𝓤 H 𝓜 𝓖 𝓡))
-    (cited 𝓤 H (ServeIn 𝓤 H (𝓖 .A) W (𝓜 .mem) (𝓡 .run)) 𝓜 𝓡 code.env serve-name serve-routine code.calls-manager·serve-in (serve-met.met 𝓤 H 𝓜 𝓖 𝓡))
+    (cited 𝓤 H (RequestIn 𝓤 H (𝓖 .A) W (𝓜 .mem) (𝓡 .run)) 𝓜 𝓡 code.env request-name request-routine code.calls-trial·commands·request-in (request-met.met 𝓤 H 𝓜 𝓖 𝓡))
+    (cited 𝓤 H (AskIn 𝓤 H (𝓖 .A) W (𝓜 .mem) (𝓡 .run)) 𝓜 𝓡 code.env ask-name ask-routine code.calls-trial·asking·ask-in (ask-met.met 𝓤 H 𝓜 𝓖 𝓡))
     (cited 𝓤 H (SumWith 𝓤 H (𝓖 .A) W (𝓜 .mem) (𝓡 .run)) 𝓜 𝓡 code.env sum-name sum-routine code.calls-trial·running·sum-with (sum-met.met 𝓤 H 𝓜 𝓖 𝓡))
     (cited 𝓤 H (NextPlace 𝓤 H (𝓖 .A) W (𝓜 .mem) (𝓡 .run)) 𝓜 𝓡 code.env next-name next-routine code.calls-trial·running·next-place (next-met.met 𝓤 H 𝓜 𝓖 𝓡)))
   where

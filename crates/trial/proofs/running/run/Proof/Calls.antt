@@ -30,23 +30,23 @@ use denote.Triple.Statement.{Contract}
 use denote.Triple.Walked.{says, needs}
 use Rattle.countdown.proofs.Calling.{Given-back, gives}
 use Rattle.model.specs.declared.answer.Answer.{Answer}
-use Rattle.model.specs.declared.command.Command.{Command}
 use Rattle.model.specs.declared.table.Table.{Table}
 use Rattle.model.proofs.answer.Answer as answer
 use Rattle.model.proofs.answer.Answer.Laws as answer-laws
-use Rattle.model.proofs.command.Command as command
-use Rattle.model.proofs.command.Command.Laws as command-laws
 use Rattle.model.proofs.table.Table as table
-use Rattle.tables.specs.Serving.{ServesCommand, answering, served}
-use Rattle.manager.proofs.serve_in as serving
-use Rattle.trial.specs.Commands.{commandIn}
+use Rattle.tables.specs.Serving.{ServesFor, answering, served}
+use Rattle.trial.specs.Commands.{askedFor, askedIn}
 use Rattle.trial.specs.Trials.{summed}
-use Rattle.trial.proofs.commands.command_in as reading
+use Rattle.trial.specs.declared.commands.Request.{Request}
+use Rattle.trial.proofs.asking.ask_in as asking
+use Rattle.trial.proofs.commands.Request as request
+use Rattle.trial.proofs.commands.Request.Laws as request-laws
+use Rattle.trial.proofs.commands.request_in as reading
 use Rattle.trial.proofs.running.next_place as placing
 use Rattle.trial.proofs.running.sum_with as summing
 -- where each callee stands in the table of calls
-pub use Rattle.manager.proofs.serve_in.Symbol.{name as serve-name, routine as serve-routine}
-pub use Rattle.trial.proofs.commands.command_in.Symbol.{name as command-name, routine as command-routine}
+pub use Rattle.trial.proofs.asking.ask_in.Symbol.{name as ask-name, routine as ask-routine}
+pub use Rattle.trial.proofs.commands.request_in.Symbol.{name as request-name, routine as request-routine}
 pub use Rattle.trial.proofs.running.next_place.Symbol.{name as next-name, routine as next-routine}
 pub use Rattle.trial.proofs.running.sum_with.Symbol.{name as sum-name, routine as sum-routine}
 
@@ -56,27 +56,27 @@ slice s = sliceVal (s .ptr) (length (s .now))
 
 module _ {M : Type 1} (𝓤 : URA M) (H : Heap 𝓤) (A : Atoms 𝓤) (W : Given 𝓤 H A) where
   module _ (mem″ : Memory → SProp 𝓤) (run : Routine → Fun 𝓤) where
-    -- ---- `command_in`, with the commands lent for κ
-    abbrev pub CommandIn : Contract 𝓤
-    CommandIn = tripleOf 𝓤 H A reading.signature (reading.spec 𝓤 H A mem″ run)
+    -- ---- `request_in`, with the commands lent for κ
+    abbrev pub RequestIn : Contract 𝓤
+    RequestIn = tripleOf 𝓤 H A reading.signature (reading.spec 𝓤 H A mem″ run)
 
     module _ (κ : Lft) (q : Share) (row : RefT (List ℕ)) (at : ℕ) where
       abbrev pub Row : Fml
       Row = ShrSlice (named 0) κ u64 .own row (slice row ∷ [])
 
-      abbrev pub to-command : CommandIn .Ghost
-      to-command = (((κ, tt), (q, tt), tt, (row, (at, tt)), (slice row ∷ [], (vint w64 at ∷ [], tt))), tt)
+      abbrev pub to-request : RequestIn .Ghost
+      to-request = (((κ, tt), (q, tt), tt, (row, (at, tt)), (slice row ∷ [], (vint w64 at ∷ [], tt))), tt)
 
-      pub command-may : at < 2 ^ 64 → at + 6 ≤ length (row .now) → ent 𝓤 (sep 𝓤 (A .lft κ q) (sem 𝓤 H A Row)) (CommandIn .pre to-command)
-      command-may fits within =
+      pub request-may : at < 2 ^ 64 → at + 6 ≤ length (row .now) → ent 𝓤 (sep 𝓤 (A .lft κ q) (sem 𝓤 H A Row)) (RequestIn .pre to-request)
+      request-may fits within =
           qed W (‵ (flft κ q) ∷ ‵ Row ∷ []) ∵ says ! within $ nothing ! $ move ! (1 ∷ 0 ∷ []) $ join ! $ frame ! $
           nothing ! $ owned ! usize (Is usize) (uint-makes 𝓤 H A W w64) at (vint w64 at ∷ []) (refl, fits) $ fjoin ! $ move ! (1 ∷ 0 ∷ []) $ fjoin ! $ done !
 
-      abbrev pub Read : Command → SProp 𝓤
-      Read r = fact 𝓤 (r ≡ commandIn (row .now) at)
+      abbrev pub Read : Request → SProp 𝓤
+      Read r = fact 𝓤 (askedFor r ≡ askedIn (row .now) at)
 
-      pub command-gives : (v : Val) → ent 𝓤 (CommandIn .post to-command v) (H .⇛ (ex 𝓤 (Given-back 𝓤 H A W reading.ended (reading.clauses 𝓤 H A mem″ run) to-command v Read)))
-      command-gives v = gives 𝓤 H A W reading.ended (reading.clauses 𝓤 H A mem″ run) to-command v Read
+      pub request-gives : (v : Val) → ent 𝓤 (RequestIn .post to-request v) (H .⇛ (ex 𝓤 (Given-back 𝓤 H A W reading.ended (reading.clauses 𝓤 H A mem″ run) to-request v Read)))
+      request-gives v = gives 𝓤 H A W reading.ended (reading.clauses 𝓤 H A mem″ run) to-request v Read
           (λ r. exE 𝓤 _ (λ ws. snd∗ 𝓤 (sem 𝓤 H A (lasts reading.ended (κ, tt) (row, (at, tt)) ws)) (Read r)))
 
     -- ---- `sum_with`
@@ -121,11 +121,11 @@ module _ {M : Type 1} (𝓤 : URA M) (H : Heap 𝓤) (A : Atoms 𝓤) (W : Given
       next-gives v = gives 𝓤 H A W placing.ended (placing.clauses 𝓤 H A mem″ run) to-next v Next
           (λ r. exE 𝓤 _ (λ ws. snd∗ 𝓤 (sem 𝓤 H A (lasts placing.ended tt (numbers, (at, tt)) ws)) (Next r)))
 
-    -- ---- `serve_in`, with the table lent for α, and the store, the words and the bytes lent for β₁, β₂ and β₃
-    abbrev pub ServeIn : Contract 𝓤
-    ServeIn = tripleOf 𝓤 H A serving.signature (serving.spec 𝓤 H A mem″ run)
+    -- ---- `ask_in`, with the table lent for α, and the store, the words and the bytes lent for β₁, β₂ and β₃
+    abbrev pub AskIn : Contract 𝓤
+    AskIn = tripleOf 𝓤 H A asking.signature (asking.spec 𝓤 H A mem″ run)
 
-    module _ (α β₁ β₂ β₃ : ℕ) (t : RefT Table) (k : Command) (kv : Val) (store words bytes : RefT (List ℕ)) where
+    module _ (α β₁ β₂ β₃ : ℕ) (t : RefT Table) (k : Request) (kv : Val) (store words bytes : RefT (List ℕ)) where
       abbrev pub Tokens : SProp 𝓤
       Tokens = sep 𝓤 (A .lft (α ∷ []) fullShare) (sep 𝓤 (A .lft (β₁ ∷ []) fullShare) (sep 𝓤 (A .lft (β₂ ∷ []) fullShare) (sep 𝓤 (A .lft (β₃ ∷ []) fullShare) (emp 𝓤))))
 
@@ -141,8 +141,8 @@ module _ {M : Type 1} (𝓤 : URA M) (H : Heap 𝓤) (A : Atoms 𝓤) (W : Given
       abbrev pub LentBytes : Fml
       LentBytes = MutSlice (named 3) (β₃ ∷ []) u8 .own bytes (slice bytes ∷ [])
 
-      abbrev pub to-serve : ServeIn .Ghost
-      to-serve = (
+      abbrev pub to-ask : AskIn .Ghost
+      to-ask = (
         (
           (α ∷ [], (β₁ ∷ [], (β₂ ∷ [], (β₃ ∷ [], tt)))),
           (fullShare, (fullShare, (fullShare, (fullShare, tt)))),
@@ -153,12 +153,12 @@ module _ {M : Type 1} (𝓤 : URA M) (H : Heap 𝓤) (A : Atoms 𝓤) (W : Given
         tt,
       )
 
-      pub serve-may : Is command.the-row k (kv ∷ [])
-          → ent 𝓤 (sep 𝓤 Tokens (sep 𝓤 (sem 𝓤 H A LentTable) (sep 𝓤 (sem 𝓤 H A LentStore) (sep 𝓤 (sem 𝓤 H A LentWords) (sem 𝓤 H A LentBytes))))) (ServeIn .pre to-serve)
-      serve-may is =
+      pub ask-may : Is request.the-row k (kv ∷ [])
+          → ent 𝓤 (sep 𝓤 Tokens (sep 𝓤 (sem 𝓤 H A LentTable) (sep 𝓤 (sem 𝓤 H A LentStore) (sep 𝓤 (sem 𝓤 H A LentWords) (sem 𝓤 H A LentBytes))))) (AskIn .pre to-ask)
+      ask-may is =
           qed W (raw Tokens ∷ ‵ LentTable ∷ ‵ LentStore ∷ ‵ LentWords ∷ ‵ LentBytes ∷ []) ∵
           nothing ! $ move ! (5 ∷ 0 ∷ []) $ fjoin ! $ move ! (4 ∷ 0 ∷ []) $ fjoin ! $ move ! (3 ∷ 0 ∷ []) $ fjoin ! $
-          owned ! command.the-row (Is command.the-row) (enum-makes command.the-type command-laws.the-plain 𝓤 H A) k (kv ∷ []) is $ fjoin ! $ move ! (2 ∷ 0 ∷ []) $ fjoin ! $
+          owned ! request.the-row (Is request.the-row) (enum-makes request.the-type request-laws.the-plain 𝓤 H A) k (kv ∷ []) is $ fjoin ! $ move ! (2 ∷ 0 ∷ []) $ fjoin ! $
           move ! (1 ∷ 0 ∷ []) $ join ! $ frame ! $ done !
 
       -- the last table and the last elements, and what they and the answer are
@@ -166,7 +166,7 @@ module _ {M : Type 1} (𝓤 : URA M) (H : Heap 𝓤) (A : Atoms 𝓤) (W : Given
       Ends = Table × (List ℕ × (List ℕ × List ℕ))
 
       abbrev pub Says : Answer → Ends → Type 0
-      Says a z = ServesCommand (t .now) k (store .now) (words .now) (bytes .now) (served (answering (z .0) a) (z .1 .0) (z .1 .1 .0) (z .1 .1 .1))
+      Says a z = ServesFor (t .now) (askedFor k) (store .now) (words .now) (bytes .now) (served (answering (z .0) a) (z .1 .0) (z .1 .1 .0) (z .1 .1 .1))
 
       abbrev pub Lengths : Ends → Type 0
       Lengths z = (length (z .1 .0) ≡ length (store .now)) × ((length (z .1 .1 .0) ≡ length (words .now)) × (length (z .1 .1 .1) ≡ length (bytes .now)))
@@ -181,14 +181,14 @@ module _ {M : Type 1} (𝓤 : URA M) (H : Heap 𝓤) (A : Atoms 𝓤) (W : Given
           (fsep (fsep (finally u64 (words .name) (z .1 .1 .0)) (feq ℕ (length (z .1 .1 .0)) (length (words .now))))
           (fsep (fsep (finally u8 (bytes .name) (z .1 .1 .1)) (feq ℕ (length (z .1 .1 .1)) (length (bytes .now)))) ftrue))))
 
-      serve-told : (a : Answer) (z : Ends) → ent 𝓤 (sep 𝓤 (sem 𝓤 H A (Left z)) (fact 𝓤 (Says a z))) (ex 𝓤 (Told a))
-      serve-told a z = needs 𝓤 _ (sem 𝓤 H A (Left z)) (λ f.
+      ask-told : (a : Answer) (z : Ends) → ent 𝓤 (sep 𝓤 (sem 𝓤 H A (Left z)) (fact 𝓤 (Says a z))) (ex 𝓤 (Told a))
+      ask-told a z = needs 𝓤 _ (sem 𝓤 H A (Left z)) (λ f.
           qed W (‵ (Left z) ∷ []) ∵ fsplit ! $ move ! (1 ∷ []) $ fsplit ! $ drop ! $
           fsplit ! $ fsplit ! $ move ! (1 ∷ []) $ feqL ! (λ l₁. move ! (1 ∷ []) $ fsplit ! $ fsplit ! $ move ! (1 ∷ []) $ feqL ! (λ l₂. move ! (1 ∷ []) $
           fsplit ! $ fsplit ! $ move ! (1 ∷ []) $ feqL ! (λ l₃. move ! (4 ∷ 3 ∷ 2 ∷ 0 ∷ []) $ keep ! (0 ∷ 1 ∷ 2 ∷ 3 ∷ []) $
           show ! (Told a) z $ check ! (f, (l₁, (l₂, l₃))) $ done !))))
 
-      pub serve-gives : (v : Val) → ent 𝓤 (ServeIn .post to-serve v)
-          (H .⇛ (ex 𝓤 (Given-back 𝓤 H A W serving.ended (serving.clauses 𝓤 H A mem″ run) to-serve v (λ a. ex 𝓤 (Told a)))))
-      serve-gives v = gives 𝓤 H A W serving.ended (serving.clauses 𝓤 H A mem″ run) to-serve v (λ a. ex 𝓤 (Told a))
-          (λ a. exE 𝓤 _ (λ ws. serve-told a (ws .0, (ws .1 .1 .0, (ws .1 .1 .1 .0, ws .1 .1 .1 .1 .0)))))
+      pub ask-gives : (v : Val) → ent 𝓤 (AskIn .post to-ask v)
+          (H .⇛ (ex 𝓤 (Given-back 𝓤 H A W asking.ended (asking.clauses 𝓤 H A mem″ run) to-ask v (λ a. ex 𝓤 (Told a)))))
+      ask-gives v = gives 𝓤 H A W asking.ended (asking.clauses 𝓤 H A mem″ run) to-ask v (λ a. ex 𝓤 (Told a))
+          (λ a. exE 𝓤 _ (λ ws. ask-told a (ws .0, (ws .1 .1 .0, (ws .1 .1 .1 .0, ws .1 .1 .1 .1 .0)))))

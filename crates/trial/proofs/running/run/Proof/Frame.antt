@@ -14,9 +14,9 @@ use denote.Slice.{sliceTy}
 use borrow.Fn.Frame.{Fr, locs}
 use Rattle.countdown.proofs.Frames as frames
 use Rattle.model.proofs.answer.Answer.Laws as answer
-use Rattle.model.proofs.command.Command.Laws as command
 use Rattle.model.proofs.table.Table as table
 use Rattle.model.proofs.table.Table.Laws as table-laws
+use Rattle.trial.proofs.commands.Request.Laws as request
 use Rattle.trial.proofs.running.Finished.Laws as finished
 use Rattle.trial.proofs.running.run.Code as code
 
@@ -35,7 +35,7 @@ localTypes = finished.mir
     ∷ word
     ∷ word
     ∷ word
-    ∷ command.mir
+    ∷ request.mir
     ∷ answer.mir
     ∷ tyBool
     ∷ tyRef erased mut (pointee (table.the-row .written))

@@ -7,8 +7,8 @@ use native.Mathlib.Omega.{arith}
 use lib.ListN.{length}
 use Rattle.model.specs.declared.answer.Answer.{Answer}
 use Rattle.model.specs.declared.table.Table.{Table}
-use Rattle.tables.specs.Serving.{ServesCommand, answering, served}
-use Rattle.trial.specs.Commands.{commandIn}
+use Rattle.tables.specs.Serving.{ServesFor, answering, served}
+use Rattle.trial.specs.Commands.{askedIn}
 use Rattle.trial.specs.Running.{Runs}
 use Rattle.trial.specs.Trials.{Calls, lending, next, summed}
 
@@ -38,7 +38,7 @@ pub record Served (commands : List ℕ) (s : Turn) (a : Answer) (u : Turn) : Typ
   pub counted : u .count ≡ s .count + 1
   pub placed : u .at ≡ next commands (s .at)
   pub added : u .sum ≡ summed (s .sum) a
-  pub serves : ServesCommand (s .table) (commandIn commands (s .at)) (s .store) (s .words) (s .bytes)
+  pub serves : ServesFor (s .table) (askedIn commands (s .at)) (s .store) (s .words) (s .bytes)
       (served (answering (u .table) a) (u .store) (u .words) (u .bytes))
 
 -- A state with so many commands left, of a run on the table t.

@@ -1,4 +1,4 @@
--- A turn of the loop in which a command is served: it is read from the row, the table, the store, the words and the bytes are lent to `serve_in`, each for a
+-- A turn of the loop in which a command is served: it is read from the row, the table, the store, the words and the bytes are lent to `ask_in`, each for a
 -- lifetime that is made for the call, and once these are ended all four are taken back; then the sum, the place and the count go on.
 use Prim.Native.Nat.{ℕ, _+_, _<_, _≤_, _^_}
 use mathlib.Core.Bool.{Bool}
@@ -36,19 +36,19 @@ use denote.Triple.Call.{calls-at}
 use denote.Triple.Statement.{Triple}
 use borrow.Author.Tests.{lt-ltb}
 use Rattle.model.specs.declared.answer.Answer.{Answer}
-use Rattle.model.specs.declared.command.Command.{Command}
 use Rattle.model.specs.declared.table.Table.{Table}
 use Rattle.model.proofs.answer.Answer as answer
 use Rattle.model.proofs.answer.Answer.Laws as answer-laws
-use Rattle.model.proofs.command.Command as command
-use Rattle.model.proofs.command.Command.Laws as command-laws
 use Rattle.model.proofs.table.Table as table
-use Rattle.trial.specs.Commands.{commandIn}
+use Rattle.trial.specs.Commands.{askedFor, askedIn}
 use Rattle.trial.specs.Trials.{next, summed}
+use Rattle.trial.specs.declared.commands.Request.{Request}
+use Rattle.trial.proofs.commands.Request as request
+use Rattle.trial.proofs.commands.Request.Laws as request-laws
 use Rattle.trial.proofs.running.run.Code.Mir.{turn-1}
-use Rattle.trial.proofs.running.run.Proof.Calls.{command-name, next-name, serve-name, sum-name, slice, CommandIn, Row, to-command, command-may, Read, command-gives}
+use Rattle.trial.proofs.running.run.Proof.Calls.{request-name, next-name, ask-name, sum-name, slice, RequestIn, Row, to-request, request-may, Read, request-gives}
 use Rattle.trial.proofs.running.run.Proof.Calls.{SumWith, to-sum, sum-may, Added, sum-gives, NextPlace, to-next, next-may, Next, next-gives}
-use Rattle.trial.proofs.running.run.Proof.Calls.{ServeIn, LentTable, LentStore, LentWords, LentBytes, to-serve, serve-may, Says, Lengths, serve-gives}
+use Rattle.trial.proofs.running.run.Proof.Calls.{AskIn, LentTable, LentStore, LentWords, LentBytes, to-ask, ask-may, Says, Lengths, ask-gives}
 use Rattle.trial.proofs.running.run.Proof.Frame.{En, place, holds, empty, dies}
 use Rattle.trial.proofs.running.run.Proof.Rounds.{Turn, Fits, Served}
 use Rattle.trial.proofs.running.run.Proof.Slices.{Elements, Opened}
@@ -79,7 +79,7 @@ module _ {M : Type 1} (𝓤 : URA M) (H : Heap 𝓤) (A : Atoms 𝓤) (W : Given
     abbrev bytes-ref : RefT (List ℕ)
     bytes-ref = record { ptr = bytes .ptr; name = δ₃; now = s .bytes }
 
-  module _ (known-command : Triple 𝓤 (𝓣 .C command-name) (CommandIn 𝓤 H A W mem″ run)) (known-serve : Triple 𝓤 (𝓣 .C serve-name) (ServeIn 𝓤 H A W mem″ run))
+  module _ (known-request : Triple 𝓤 (𝓣 .C request-name) (RequestIn 𝓤 H A W mem″ run)) (known-ask : Triple 𝓤 (𝓣 .C ask-name) (AskIn 𝓤 H A W mem″ run))
       (known-sum : Triple 𝓤 (𝓣 .C sum-name) (SumWith 𝓤 H A W mem″ run)) (known-next : Triple 𝓤 (𝓣 .C next-name) (NextPlace 𝓤 H A W mem″ run))
       (rounds-fit : rounds < 2 ^ 64) (enough : 6 ≤ length (commands .now)) (commands-fit : length (commands .now) < 2 ^ 64)
       (store-room : Room u64 (length (store .now))) (words-room : Room u64 (length (words .now))) (bytes-room : Room u8 (length (bytes .now))) where
@@ -96,14 +96,14 @@ module _ {M : Type 1} (𝓤 : URA M) (H : Heap 𝓤) (A : Atoms 𝓤) (W : Given
         -- the command
         move ! (5 ∷ []) $ use1 W (‵ (Row 𝓤 H A W mem″ run κ₀ q₀ commands (s .at)) ⊛ ‵ (Row 𝓤 H A W mem″ run κ₀ q₀ commands (s .at)))
         (shr-slice-copy 𝓤 H A W (named 0) κ₀ u64 .twice commands (slice commands ∷ [])) $ split ! $ move ! (6 ∷ 0 ∷ []) $
-        use2 W (raw (CommandIn 𝓤 H A W mem″ run .pre (to-command 𝓤 H A W mem″ run κ₀ q₀ commands (s .at))))
-        (command-may 𝓤 H A W mem″ run κ₀ q₀ commands (s .at) at-fits (fit .within)) $
-        calls-at ! (fmOf 𝓤 H (W .laws) 𝓣) (CommandIn 𝓤 H A W mem″ run) known-command (to-command 𝓤 H A W mem″ run κ₀ q₀ commands (s .at))
+        use2 W (raw (RequestIn 𝓤 H A W mem″ run .pre (to-request 𝓤 H A W mem″ run κ₀ q₀ commands (s .at))))
+        (request-may 𝓤 H A W mem″ run κ₀ q₀ commands (s .at) at-fits (fit .within)) $
+        calls-at ! (fmOf 𝓤 H (W .laws) 𝓣) (RequestIn 𝓤 H A W mem″ run) known-request (to-request 𝓤 H A W mem″ run κ₀ q₀ commands (s .at))
         (and-then ! (load ! (from ! (stop !)) (look ! 21 refl)) (and-then ! (load ! (from ! (stop !)) (look ! 7 refl)) (no-more !))) (λ kv.
-        use1 W (later (some (λ (k : Command). given (Is command.the-row k (kv ∷ [])) ((‵ (flft κ₀ q₀) ⊛ ‵ ftrue) ⊛ raw (Read 𝓤 H A W mem″ run κ₀ q₀ commands (s .at) k)))))
-        (command-gives 𝓤 H A W mem″ run κ₀ q₀ commands (s .at) kv) $ await ! tt $ pick ! (λ k. learn ! (λ is-k. split ! $ move ! (1 ∷ []) $
-        heard ! (k ≡ commandIn (commands .now) (s .at)) (λ is-read. split ! $ move ! (1 ∷ []) $ drop ! $
-        land ! (from ! (stop !)) (init ! 9 refl (enum.lawful command.the-type command-laws.the-laws 𝓤 H A W tt .typed k (kv ∷ []) is-k .0)) $
+        use1 W (later (some (λ (k : Request). given (Is request.the-row k (kv ∷ [])) ((‵ (flft κ₀ q₀) ⊛ ‵ ftrue) ⊛ raw (Read 𝓤 H A W mem″ run κ₀ q₀ commands (s .at) k)))))
+        (request-gives 𝓤 H A W mem″ run κ₀ q₀ commands (s .at) kv) $ await ! tt $ pick ! (λ k. learn ! (λ is-k. split ! $ move ! (1 ∷ []) $
+        heard ! (askedFor k ≡ askedIn (commands .now) (s .at)) (λ is-read. split ! $ move ! (1 ∷ []) $ drop ! $
+        land ! (from ! (stop !)) (init ! 9 refl (enum.lawful request.the-type request-laws.the-laws 𝓤 H A W tt .typed k (kv ∷ []) is-k .0)) $
         -- where the table and the slices are
         assigns ! (addr ! (from ! (stop !))) (from ! (stop !)) (init ! 12 refl (tt, tt)) $
         assigns ! (addr ! (from ! (fld ! refl (hop ! (look-in ! 22 (sub ! 0 refl (whole !))) (stop !))))) (from ! (stop !)) (init ! 13 refl (tt, tt)) $
@@ -137,10 +137,10 @@ module _ {M : Type 1} (𝓤 : URA M) (H : Heap 𝓤) (A : Atoms 𝓤) (W : Given
         -- the call
         nothing ! $ move ! (3 ∷ 0 ∷ []) $ join ! $ move ! (5 ∷ 0 ∷ []) $ join ! $ move ! (7 ∷ 0 ∷ []) $ join ! $ move ! (9 ∷ 0 ∷ []) $ join ! $
         move ! (3 ∷ 1 ∷ []) $ join ! $ move ! (4 ∷ 0 ∷ []) $ join ! $ move ! (5 ∷ 0 ∷ []) $ join ! $ move ! (1 ∷ 0 ∷ []) $
-        use2 W (raw (ServeIn 𝓤 H A W mem″ run .pre (to-serve 𝓤 H A W mem″ run α β₁ β₂ β₃ (table-ref s γ δ₁ δ₂ δ₃) k kv (store-ref s γ δ₁ δ₂ δ₃) (words-ref s γ δ₁ δ₂ δ₃) (bytes-ref s γ δ₁ δ₂ δ₃))))
-        (serve-may 𝓤 H A W mem″ run α β₁ β₂ β₃ (table-ref s γ δ₁ δ₂ δ₃) k kv (store-ref s γ δ₁ δ₂ δ₃) (words-ref s γ δ₁ δ₂ δ₃) (bytes-ref s γ δ₁ δ₂ δ₃) is-k) $
-        calls-at ! (fmOf 𝓤 H (W .laws) 𝓣) (ServeIn 𝓤 H A W mem″ run) known-serve
-        (to-serve 𝓤 H A W mem″ run α β₁ β₂ β₃ (table-ref s γ δ₁ δ₂ δ₃) k kv (store-ref s γ δ₁ δ₂ δ₃) (words-ref s γ δ₁ δ₂ δ₃) (bytes-ref s γ δ₁ δ₂ δ₃))
+        use2 W (raw (AskIn 𝓤 H A W mem″ run .pre (to-ask 𝓤 H A W mem″ run α β₁ β₂ β₃ (table-ref s γ δ₁ δ₂ δ₃) k kv (store-ref s γ δ₁ δ₂ δ₃) (words-ref s γ δ₁ δ₂ δ₃) (bytes-ref s γ δ₁ δ₂ δ₃))))
+        (ask-may 𝓤 H A W mem″ run α β₁ β₂ β₃ (table-ref s γ δ₁ δ₂ δ₃) k kv (store-ref s γ δ₁ δ₂ δ₃) (words-ref s γ δ₁ δ₂ δ₃) (bytes-ref s γ δ₁ δ₂ δ₃) is-k) $
+        calls-at ! (fmOf 𝓤 H (W .laws) 𝓣) (AskIn 𝓤 H A W mem″ run) known-ask
+        (to-ask 𝓤 H A W mem″ run α β₁ β₂ β₃ (table-ref s γ δ₁ δ₂ δ₃) k kv (store-ref s γ δ₁ δ₂ δ₃) (words-ref s γ δ₁ δ₂ δ₃) (bytes-ref s γ δ₁ δ₂ δ₃))
         (and-then ! (load ! (from ! (stop !)) (look ! 13 refl)) (and-then ! (load ! (from ! (stop !)) (look ! 10 refl)) (and-then ! (load ! (from ! (stop !)) (look ! 15 refl))
         (and-then ! (load ! (from ! (stop !)) (look ! 17 refl)) (and-then ! (load ! (from ! (stop !)) (look ! 19 refl)) (no-more !)))))) (λ av.
         use1 W (later (some (λ (a : Answer). given (Is answer.the-row a (av ∷ []))
@@ -149,7 +149,7 @@ module _ {M : Type 1} (𝓤 : URA M) (H : Heap 𝓤) (A : Atoms 𝓤) (W : Given
         given (Says 𝓤 H A W mem″ run α β₁ β₂ β₃ (table-ref s γ δ₁ δ₂ δ₃) k kv (store-ref s γ δ₁ δ₂ δ₃) (words-ref s γ δ₁ δ₂ δ₃) (bytes-ref s γ δ₁ δ₂ δ₃) a z
         × Lengths 𝓤 H A W mem″ run α β₁ β₂ β₃ (table-ref s γ δ₁ δ₂ δ₃) k kv (store-ref s γ δ₁ δ₂ δ₃) (words-ref s γ δ₁ δ₂ δ₃) (bytes-ref s γ δ₁ δ₂ δ₃) z)
         (‵ (fres γ (table.the-row .coded .code (z .0))) ⊛ (‵ (finally u64 δ₁ (z .1 .0)) ⊛ (‵ (finally u64 δ₂ (z .1 .1 .0)) ⊛ ‵ (finally u8 δ₃ (z .1 .1 .1))))))))))
-        (serve-gives 𝓤 H A W mem″ run α β₁ β₂ β₃ (table-ref s γ δ₁ δ₂ δ₃) k kv (store-ref s γ δ₁ δ₂ δ₃) (words-ref s γ δ₁ δ₂ δ₃) (bytes-ref s γ δ₁ δ₂ δ₃) av) $
+        (ask-gives 𝓤 H A W mem″ run α β₁ β₂ β₃ (table-ref s γ δ₁ δ₂ δ₃) k kv (store-ref s γ δ₁ δ₂ δ₃) (words-ref s γ δ₁ δ₂ δ₃) (bytes-ref s γ δ₁ δ₂ δ₃) av) $
         await ! tt $ pick ! (λ a. learn ! (λ is-a. split ! $ move ! (1 ∷ []) $ pick ! (λ z. learn ! (λ f.
         split ! $ move ! (1 ∷ []) $ split ! $ move ! (1 ∷ []) $ split ! $
         land ! (from ! (stop !)) (init ! 15 refl (enum.lawful answer.the-type answer-laws.the-laws 𝓤 H A W tt .typed a (av ∷ []) is-a .0)) $

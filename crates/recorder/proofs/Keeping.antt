@@ -1,0 +1,253 @@
+-- What `give_latest` needs: the rows that are gathered tell what the domain keeps, and its answers are those of the rules.
+use Prim.Native.Nat.{ℕ, zero, suc, _+_, _*_, _/_, _%_, _≤_, _<_, min}
+use mathlib.Core.Bool.{Bool, true, false, true≢false, _&&_, cond}
+use mathlib.Core.List.{List, [], _∷_, _++_, append-nil}
+use mathlib.Core.Option.{Option, none, some}
+use mathlib.Core.Path.{_≡_, refl, sym, ap, ap₂, _∙_, subst}
+use native.Mathlib.Nat.{mul-le-mul-right}
+use native.Mathlib.Omega.{arith}
+use lib.Dec.{eqb, leb, ltb}
+use lib.ListN.{List·getD-append, drop, getD, length, length-append, take}
+use lib.Seq.{take-append-seam}
+use borrow.Author.Tests.{eqb-true, le-leb, leb-true, lt-leb, ltb-false, ltb-true}
+use Rattle.geometry.proofs.Laws.Shape.{by-test, is-between, limits}
+use Rattle.geometry.specs.Questions.{answered, firstNo}
+use Rattle.geometry.specs.Shape.{adusPerBlock, counted, storeLength, stretchStart}
+use Rattle.geometry.specs.declared.shape.Adus.{Adus}
+use Rattle.geometry.specs.declared.shape.Config.{Config}
+use Rattle.model.specs.declared.answer.Answer.{Answer}
+use Rattle.model.specs.declared.answer.Answer.the-variants.{Done, Refused}
+use Rattle.model.specs.declared.answer.Refusal.the-variants as refusal
+use Rattle.model.specs.declared.table.Table.{Table}
+use Rattle.recorder.specs.Newest.{FewWritten, FillsFrom, Gathers, Within, keyFor, keyOf, keysTo, partOf, partsOf, rankedTo, writtenTo}
+use Rattle.recorder.specs.Steps.{FillsLatest, Given, Readable}
+use Rattle.recorder.specs.declared.newest.Gathered.{Gathered}
+use Rattle.recorder.proofs.Filling.{parts-append}
+use Rattle.recorder.proofs.Ranking.{key-number, ranked}
+use Rattle.rules.specs.Claims.{Shaped}
+use Rattle.rules.specs.Drive.{Drive, blockAt, blockWith, domainAt, entriesOf, heldBy, overwritten, size}
+use Rattle.rules.specs.Questions.{isCount}
+use Rattle.rules.specs.Recorder.{hasRecorderShape, kept, keptTo, lastOf, writtenIn}
+use Rattle.rules.proofs.Drive.{overwritten-nothing}
+use Rattle.rules.proofs.Kept.Facts.{Facts, written-most}
+use Rattle.rules.proofs.Kept.OneBlock.{few-blocks}
+use Rattle.rules.proofs.Kept.Tested.{facts-of}
+use Rattle.rules.proofs.Kept.Views.{view}
+use Rattle.rules.proofs.Noninterference.Samples.{WithSerial, kept-length, with-serial}
+use Rattle.rules.proofs.Writes.{Ready}
+use Rattle.sorting.specs.Order.{inOrder}
+use Rattle.tables.specs.Serving.{drive}
+
+-- The first of the second of two lists.
+getD-seam : (xs : List ℕ) (y : ℕ) (ys : List ℕ) → getD (xs ++ (y ∷ ys)) (length xs) 0 ≡ y
+getD-seam [] y ys = refl
+getD-seam (x ∷ xs) y ys = getD-seam xs y ys
+
+module _ (t : Table) (d : ℕ) (store : List ℕ) (x : Readable t d store) (shape : Shaped t) where
+  abbrev v : Drive
+  v = drive t store
+
+  abbrev c : ℕ
+  c = adusPerBlock (t .config) .0
+
+  pub facts : Facts v
+  facts = facts-of v (x .is-sound)
+
+  low : 1 ≤ d
+  low = is-between 1 16 d (x .id) .least
+
+  pub few : size t ≤ 256
+  few = few-blocks facts
+
+  ready : Ready (t .config) v
+  ready = record { shape = refl; blocks = omega (arith, few, shape .blocks); store = x .whole }
+
+  -- No block has more written than it takes, ..
+  pub block-few : (n : ℕ) → n < size t → blockAt t n .written .0 ≤ c
+  block-few n l = written-most t (blockAt t n .state) (blockAt t n) (facts .blocks n l)
+
+  -- .. and its entries lie within the store.
+  block-within : (n : ℕ) → n < size t → n * c + blockAt t n .written .0 ≤ length store
+  unfolding storeLength
+  block-within n l =
+      let next : (n + 1) * c ≤ size t * c = mul-le-mul-right c (omega (arith, l)) in
+      omega (arith, block-few n l, x .whole, next)
+
+  -- As many are kept as the blocks have written.
+  pub kept-many : length (kept v d) ≡ writtenTo t d (size t)
+  unfolding view
+  kept-many = kept-length v d low facts ready
+
+  module _ (keys₀ written₀ : List ℕ) (found : Gathered) (keys written : List ℕ) (g : Gathers t d (size t) keys₀ written₀ found keys written) where
+    abbrev last : ℕ
+    last = domainAt t d .last
+
+    -- The keys in order.
+    pub sorted-keys : inOrder (take (found .keys) keys) ≡ rankedTo t d last
+    unfolding overwritten
+    sorted-keys =
+        ap₂ (λ (k : ℕ) (l : List ℕ). inOrder (take k l)) (g .as-many) (g .keys-are)
+        ∙ ap (λ (l : List ℕ). inOrder l) (take-append-seam (keysTo t d (size t)) _)
+        ∙ ranked v d low facts
+
+    take-take : (a b : ℕ) (l : List ℕ) → a ≤ b → take a (take b l) ≡ take a l
+    take-take zero b l e = refl
+    take-take (suc a) zero l e = absurd (omega (arith, e))
+    take-take (suc a) (suc b) [] e = refl
+    take-take (suc a) (suc b) (y ∷ l) e = ap (λ (r : List ℕ). y ∷ r) (take-take a b l (omega (arith, e)))
+
+    -- What the block of a key has written.
+    one-part : (serial : ℕ) (y : Option ℕ) → WithSerial t d serial (size t) y → partsOf c store written (keyFor serial y) ≡ writtenIn v y
+    unfolding partsOf entriesOf stretchStart
+    one-part serial none o = refl
+    one-part serial (some n) o =
+        let w = blockAt t n .written .0 in
+        let is = key-number serial n (omega (arith, o .0, few)) in
+        append-nil (partOf c store written (keyOf serial n))
+        ∙ ap (λ (k : ℕ). take (getD written k 0) (drop (k * c) store)) is
+        ∙ ap (λ (k : ℕ). take k (drop (n * c) store)) (g .written-are n (o .0) (o .1))
+        ∙ sym (take-take w c (drop (n * c) store) (block-few n (o .0)))
+
+    parts-to : (s : ℕ) → partsOf c store written (rankedTo t d s) ≡ keptTo v d s
+    unfolding partsOf rankedTo keptTo
+    parts-to zero = refl
+    parts-to (suc s) =
+        parts-append c store written (rankedTo t d s) (keyFor (suc s) (blockWith t d (suc s)))
+        ∙ ap₂ (λ (a b : List ℕ). a ++ b) (parts-to s)
+        (one-part (suc s) (blockWith t d (suc s)) (with-serial t d (suc s) (size t)))
+
+    pub parts-kept : partsOf c store written (rankedTo t d last) ≡ kept v d
+    parts-kept = parts-to last
+
+    pub adus-kept : found .adus ≡ length (kept v d)
+    adus-kept = g .adus ∙ sym kept-many
+
+    -- They lie within the store.
+    keys-within : (s i : ℕ) → i < length (rankedTo t d s)
+        → let n = getD (rankedTo t d s) i 0 % 256 in (n < size t) × (heldBy d (blockAt t n) ≡ true)
+    unfolding rankedTo
+    keys-within zero i l = absurd (omega (arith, l))
+    keys-within (suc s) i l =
+        by-test (ltb i (length (rankedTo t d s)))
+        (λ e.
+        let below = ltb-true i (length (rankedTo t d s)) e in
+        subst (λ (k : ℕ). (k % 256 < size t) × (heldBy d (blockAt t (k % 256)) ≡ true))
+        (sym (List·getD-append (rankedTo t d s) (keyFor (suc s) (blockWith t d (suc s))) 0 i below)) (keys-within s i below))
+        (λ e. newest (blockWith t d (suc s)) (with-serial t d (suc s) (size t)) (ltb-false i (length (rankedTo t d s)) e) l)
+      where
+        newest : (y : Option ℕ) → WithSerial t d (suc s) (size t) y → length (rankedTo t d s) ≤ i
+            → i < length (rankedTo t d s ++ keyFor (suc s) y)
+            → let n = getD (rankedTo t d s ++ keyFor (suc s) y) i 0 % 256 in (n < size t) × (heldBy d (blockAt t n) ≡ true)
+        newest none o behind inside = absurd (omega (arith, behind, inside, length-append (rankedTo t d s) []))
+        newest (some m) o behind inside =
+            let at : i ≡ length (rankedTo t d s) = omega (arith, behind, inside, length-append (rankedTo t d s) (keyOf (suc s) m ∷ [])) in
+            let is : getD (rankedTo t d s ++ (keyOf (suc s) m ∷ [])) i 0 % 256 ≡ m =
+            ap (λ (k : ℕ). getD (rankedTo t d s ++ (keyOf (suc s) m ∷ [])) k 0 % 256) at
+            ∙ ap (λ (k : ℕ). k % 256) (getD-seam (rankedTo t d s) (keyOf (suc s) m) [])
+            ∙ key-number (suc s) m (omega (arith, o .0, few)) in
+            (omega (arith, is, o .0), subst (λ (k : ℕ). heldBy d (blockAt t k) ≡ true) (sym is) (o .1))
+
+    pub all-within : Within c store written (rankedTo t d last)
+    all-within i l =
+        let n = getD (rankedTo t d last) i 0 % 256 in
+        let h = keys-within last i l in
+        omega (arith, block-within n (h .0), g .written-are n (h .0) (h .1))
+
+-- ---- The answers
+
+module _ (t : Table) (d : ℕ) (count : Adus) (store words : List ℕ) where
+  abbrev shaped : Bool
+  shaped = hasRecorderShape (domainAt t d) && isCount count
+
+  pub given-six : shaped ≡ false → Given t d count store words (Refused refusal.Range) words
+  unfolding answered firstNo
+  given-six e = record { answers = rw e; fills = rw e (sym (overwritten-nothing words)) }
+
+  pub given-seven : shaped ≡ true → length words < count .0 → Given t d count store words (Refused refusal.Output) words
+  unfolding answered firstNo
+  given-seven e l =
+      let short : leb (count .0) (length words) ≡ false = lt-leb (count .0) (length words) l in
+      record { answers = rw (e, short); fills = rw (e, short) (sym (overwritten-nothing words)) }
+
+-- ---- What the row of keys in order is filled in from
+
+module _ (config : Config) (keys written : List ℕ) (count : Adus) (store words : List ℕ) (cap : ℕ) (f : FillsFrom config keys written count store words)
+    (capacity : cap ≡ counted config (adusPerBlock config .0)) where
+  pub capacity-is : cap ≡ adusPerBlock config .0
+  capacity-is = capacity ∙ (rw (f .limits))
+
+  pub may-fill : (keys′ : List ℕ) → keys′ ≡ keys
+      → ((cap ≤ 1048576) × (length written ≡ 256) × Within cap store written keys′)
+      × ((count .0 ≤ length (partsOf cap store written keys′)) × (count .0 ≤ length words))
+  may-fill keys′ same =
+      let small : adusPerBlock config .0 ≤ 1048576 = omega (arith, limits config (f .limits) .adus) in
+      subst (λ (l : List ℕ). ((cap ≤ 1048576) × (length written ≡ 256) × Within cap store written l)
+      × ((count .0 ≤ length (partsOf cap store written l)) × (count .0 ≤ length words))) (sym same)
+      (subst (λ (k : ℕ). ((k ≤ 1048576) × (length written ≡ 256) × Within k store written keys)
+      × ((count .0 ≤ length (partsOf k store written keys)) × (count .0 ≤ length words))) (sym capacity-is)
+      ((small, f .rows, f .within), (f .enough, f .room)))
+
+-- The rows that are gathered can be filled in from, in order.
+pub gathered-fills : (t : Table) (d : ℕ) (count : Adus) (store words keys₀ written₀ : List ℕ) (found : Gathered) (keys written : List ℕ)
+    → (x : Readable t d store) → (shape : Shaped t) → (g : Gathers t d (size t) keys₀ written₀ found keys written) → length written₀ ≡ 256
+    → count .0 ≤ length words → count .0 ≤ found .adus
+    → FillsFrom (t .config) (inOrder (take (found .keys) keys)) written count store words
+gathered-fills t d count store words keys₀ written₀ found keys written x shape g long room enough =
+    let is = sorted-keys t d store x shape keys₀ written₀ found keys written g in
+    subst (λ (l : List ℕ). FillsFrom (t .config) l written count store words) (sym is)
+    (record {
+      limits = facts t d store x shape .limits;
+      rows = g .same-length ∙ long;
+      within = all-within t d store x shape keys₀ written₀ found keys written g;
+      enough =
+          subst (λ (l : List ℕ). count .0 ≤ length l) (sym (parts-kept t d store x shape keys₀ written₀ found keys written g))
+          (omega (arith, enough, adus-kept t d store x shape keys₀ written₀ found keys written g));
+      room = room;
+    })
+
+-- What is then filled in is the end of what the domain keeps.
+pub gathered-given : (t : Table) (d : ℕ) (count : Adus) (store words keys₀ written₀ : List ℕ) (found : Gathered) (keys written words′ : List ℕ)
+    → (x : Readable t d store) → (shape : Shaped t) → (g : Gathers t d (size t) keys₀ written₀ found keys written) → count .0 ≤ found .adus
+    → words′ ≡ overwritten 0 (lastOf (count .0) (partsOf (adusPerBlock (t .config) .0) store written (inOrder (take (found .keys) keys)))) words
+    → FillsLatest t d count store words Done words′
+gathered-given t d count store words keys₀ written₀ found keys written words′ x shape g enough filled =
+    let v = drive t store in
+    let many : leb (count .0) (length (kept v d)) ≡ true =
+    le-leb (count .0) (length (kept v d)) (omega (arith, enough, adus-kept t d store x shape keys₀ written₀ found keys written g)) in
+    let all : partsOf (adusPerBlock (t .config) .0) store written (inOrder (take (found .keys) keys)) ≡ kept v d =
+    ap (λ (l : List ℕ). partsOf (adusPerBlock (t .config) .0) store written l) (sorted-keys t d store x shape keys₀ written₀ found keys written g)
+    ∙ parts-kept t d store x shape keys₀ written₀ found keys written g in
+    record { answers = rw many; fills = rw many (filled ∙ ap (λ (l : List ℕ). overwritten 0 (lastOf (count .0) l) words) all) }
+
+pub gathered-too-few : (t : Table) (d : ℕ) (count : Adus) (store words keys₀ written₀ : List ℕ) (found : Gathered) (keys written : List ℕ)
+    → (x : Readable t d store) → (shape : Shaped t) → (g : Gathers t d (size t) keys₀ written₀ found keys written) → found .adus < count .0
+    → FillsLatest t d count store words (Refused refusal.Extent) words
+gathered-too-few t d count store words keys₀ written₀ found keys written x shape g few-adus =
+    let v = drive t store in
+    let fewer : leb (count .0) (length (kept v d)) ≡ false =
+    lt-leb (count .0) (length (kept v d)) (omega (arith, few-adus, adus-kept t d store x shape keys₀ written₀ found keys written g)) in
+    record { answers = rw fewer; fills = rw fewer (sym (overwritten-nothing words)) }
+
+-- 6 and 7 are answered yes.
+pub then-filled : (t : Table) (d : ℕ) (count : Adus) (store words : List ℕ) (r : Answer) (words′ : List ℕ)
+    → hasRecorderShape (domainAt t d) && isCount count ≡ true → count .0 ≤ length words
+    → FillsLatest t d count store words r words′ → Given t d count store words r words′
+unfolding answered firstNo
+then-filled t d count store words r words′ e l f =
+    let room : leb (count .0) (length words) ≡ true = le-leb (count .0) (length words) l in
+    by-test (leb (count .0) (length (kept (drive t store) d)))
+    (λ many.
+    let done : r ≡ Done = rw many at (f .answers) in
+    let filled : words′ ≡ overwritten 0 (lastOf (count .0) (kept (drive t store) d)) words = rw many at (f .fills) in
+    record { answers = rw (done, e, room, many); fills = rw (e, room, many) filled })
+    (λ fewer.
+    let no : r ≡ Refused refusal.Extent = rw fewer at (f .answers) in
+    let same : words′ ≡ overwritten 0 [] words = rw fewer at (f .fills) in
+    record { answers = rw (no, e, room, fewer); fills = rw (e, room, fewer) same })
+
+-- What is gathered of a sound table fits.
+pub may-gather : (t : Table) (d : ℕ) (store : List ℕ) → Readable t d store → Shaped t → (size t ≤ 256) × FewWritten t
+may-gather t d store x shape = (
+  few t d store x shape,
+  λ n l. let small = limits (t .config) (facts t d store x shape .limits) .adus in omega (arith, block-few t d store x shape n l, small),
+)

@@ -1,0 +1,11 @@
+pub mod Rows
+pub mod Filling
+pub mod Gathering
+pub mod Ranking
+pub mod Domains
+pub mod Keeping
+pub mod Oldest
+pub mod Slices
+pub mod Lending
+pub mod Calls
+pub mod Contracts
