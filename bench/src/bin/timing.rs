@@ -407,12 +407,14 @@ fn transfers(busy: &Busy) -> Vec<Row> {
     counts.map(write).into_iter().chain(counts.map(read)).chain(counts.map(read_any)).collect()
 }
 
-const RECORDERS_WRITE: &str = "Recorder's drive: Write 1, 128 times, + Free";
-const RECORDERS_CLOSE: &str = "Recorder's drive: Close, Closed already";
+const WRITE_TO_EMPTY: &str = "Write 1, 128 times, + Free, none recorded";
+const WRITE_TO_FULL: &str = "Free + Write 1, 128 times, all recorded";
+const CLOSE_IN_FULL: &str = "Close, Closed already, all recorded";
 const APPEND: &str = "Append, none freed, 128 times, + Free";
 const APPEND_THAT_FREES: &str = "Append that frees + Close";
 
-/// The rows of the recorder at each S, and of two commands on its drive to hold them against.
+/// The rows of the recorder at each S, and of commands on the same drives to hold them against:
+/// in one nothing is recorded yet, in the other every block of the quota is full.
 fn recordings(busy: &Busy) -> Vec<Row> {
     let empty = busy.with_recorder();
     let full = empty.recorded();
@@ -424,8 +426,9 @@ fn recordings(busy: &Busy) -> Vec<Row> {
     let latest =
         |count| full.row(&format!("Latest {count}"), &[Call::Latest { domain: RESERVED, count }]);
     vec![
-        empty.row(RECORDERS_WRITE, &empty.filled_by(write)),
-        full.row(RECORDERS_CLOSE, &[full.close_again()]),
+        empty.row(WRITE_TO_EMPTY, &empty.filled_by(write)),
+        full.row(WRITE_TO_FULL, &full.refilled_by(write)),
+        full.row(CLOSE_IN_FULL, &[Command::Close { domain: RESERVED, block: full.oldest() }]),
         empty.row(APPEND, &empty.filled_by(append)),
         full.row(APPEND_THAT_FREES, &full.appends_that_free()),
         latest(1),
@@ -474,11 +477,27 @@ impl Busy {
         (0..self.table.config.adus_in_block()).map(call).chain([free.into()]).collect()
     }
 
-    /// Close of a Closed block of the recorder's.
-    fn close_again(&self) -> Command {
-        let its = |block: &Block| u64::from(block.holder) == RESERVED;
-        let block = self.table.blocks.iter().position(its).expect("a block") as u64;
-        Command::Close { domain: RESERVED, block }
+    /// The recorder's block with the least serial.
+    fn oldest(&self) -> u64 {
+        let blocks = self.table.blocks.iter().enumerate();
+        let its = blocks.filter(|(_, block)| u64::from(block.holder) == RESERVED);
+        its.min_by_key(|(_, block)| block.serial).expect("a block").0 as u64
+    }
+
+    /// The oldest block is freed, and calls open it again, as it is the only one that is Free, and
+    /// fill it. The list goes once through all blocks of the quota.
+    fn refilled_by(&self, call: impl Fn(u64) -> Call) -> Vec<Call> {
+        let mut busy = self.clone();
+        let mut calls = Vec::new();
+        for _ in 0..busy.table.domains[RESERVED as usize - 1].quota {
+            let free = Command::Free { domain: RESERVED, block: busy.oldest() }.into();
+            let filling = (0..busy.table.config.adus_in_block()).map(&call);
+            for next in [free].into_iter().chain(filling) {
+                busy.serve(next);
+                calls.push(next);
+            }
+        }
+        calls
     }
 
     /// Each append frees the oldest block and opens it again, as it is the only one that is Free;
@@ -640,8 +659,8 @@ fn print_growth(rows: &[Row], times: &[Times]) {
     }
 }
 
-/// What an append costs beside a Write by placement of one ADU on the same drive. A row that ends
-/// with a Close has two calls, so the time of an append that frees is what is left of both.
+/// What an append costs beside a Write by placement of one ADU on the same drive. An append that
+/// frees has a row with a Close, so its time is what is left of both.
 fn print_appends(rows: &[Row], times: &[Times]) {
     let mut headed = false;
     for blocks in DRIVES {
@@ -649,17 +668,21 @@ fn print_appends(rows: &[Row], times: &[Times]) {
             let is = |(row, _): &(&Row, &Times)| row.name == name && row.blocks() == blocks;
             rows.iter().zip(times).find(is).map(|(_, times)| [times.other, times.rust])
         };
-        let found = [RECORDERS_WRITE, RECORDERS_CLOSE, APPEND, APPEND_THAT_FREES].map(time);
-        let [Some(write), Some(close), Some(append), Some(pair)] = found else {
+        let names = [WRITE_TO_EMPTY, APPEND, WRITE_TO_FULL, APPEND_THAT_FREES, CLOSE_IN_FULL];
+        let [Some(write), Some(append), Some(rewrite), Some(pair), Some(close)] = names.map(time)
+        else {
             continue;
         };
         if !headed {
-            println!("\n{:42} {:>4} {:>10} {:>10}", "times a Write of one ADU", "S", "Rattle", "Rust");
+            println!(
+                "\n{:42} {:>4} {:>10} {:>10}",
+                "times a Write of one ADU", "S", "Rattle", "Rust"
+            );
             headed = true;
         }
         let ratio = |side: usize| append[side] / write[side];
         println!("{:42} {blocks:>4} {:>10.2} {:>10.2}", "Append, none freed", ratio(0), ratio(1));
-        let ratio = |side: usize| (2.0 * pair[side] - close[side]) / write[side];
+        let ratio = |side: usize| (2.0 * pair[side] - close[side]) / rewrite[side];
         println!("{:42} {blocks:>4} {:>10.2} {:>10.2}", "Append that frees", ratio(0), ratio(1));
     }
 }
@@ -676,7 +699,7 @@ mod tests {
             let same = |other: &Row| other.name == row.name && other.blocks() == row.blocks();
             assert!(!rows[..i].iter().any(same), "{} {}", row.name, row.blocks());
         }
-        assert_eq!(rows.len(), 4 * 18 + 12 + 3 + 4 * 7);
+        assert_eq!(rows.len(), 4 * 18 + 12 + 3 + 4 * 8);
     }
 
     #[test]
@@ -704,8 +727,8 @@ mod tests {
             let quota = blocks as usize / 4;
             let mut none_freed = vec![(false, 1); 128];
             none_freed[0].0 = true;
-            assert_eq!(held(&rows[2]), none_freed);
-            assert_eq!(held(&rows[3]), vec![(true, quota); quota]);
+            assert_eq!(held(&rows[3]), none_freed);
+            assert_eq!(held(&rows[4]), vec![(true, quota); quota]);
         }
     }
 

@@ -1,6 +1,6 @@
 -- What a recorder keeps in every run of the program, from what it keeps under the rules.
 use Prim.Native.Nat.{ℕ, zero, suc, _+_}
-use mathlib.Core.Bool.{Bool, true, true≢false, cond}
+use mathlib.Core.Bool.{true, true≢false, cond}
 use mathlib.Core.List.{List, [], _∷_, _++_}
 use mathlib.Core.Path.{_≡_, refl, sym, ap, ap₂, _∙_, subst}
 use native.Mathlib.Omega.{arith}
@@ -9,7 +9,7 @@ use lib.ListN.{drop, getD, take}
 use Rattle.geometry.proofs.Laws.Questions.{answered-number}
 use Rattle.geometry.specs.Questions.{Outcome}
 use Rattle.geometry.specs.declared.shape.Planes.{Planes}
-use Rattle.isolation.specs.Retention.{CreatesRecorder, Retention, samplesTold, noExchange}
+use Rattle.isolation.specs.Retention.{Retention, samplesTold, noExchange}
 use Rattle.isolation.specs.Runs.{callsOf, exchangesOf, first, referenceAfter}
 use Rattle.isolation.proofs.Reference.{exchanged-calls, follows-reference, run-course, run-replied}
 use Rattle.model.specs.declared.command.Command.the-variants.{Create}

@@ -1,16 +1,16 @@
 -- From the commands that are served, one after the other, to what the rules say of an append and of a reading.
-use Prim.Native.Nat.{ℕ, _+_, _≤_, _<_}
+use Prim.Native.Nat.{ℕ, _+_, _≤_}
 use mathlib.Core.Bool.{Bool, true, false, true≢false, _&&_, cond}
 use mathlib.Core.List.{List, [], _∷_, _++_}
 use mathlib.Core.Logic.{_⊎_, inl, inr}
 use mathlib.Core.Option.{Option, none, some}
 use mathlib.Core.Path.{_≡_, refl, sym, ap, ap₂, _∙_, subst}
 use native.Mathlib.Omega.{arith}
-use lib.Dec.{eqb, leb, ltb}
+use lib.Dec.{eqb, ltb}
 use lib.ListN.{length}
 use borrow.Author.Tests.{eq-eqb, eqb-false, eqb-true, ltb-true, ne-eqb}
 use Rattle.geometry.proofs.Laws.Questions.{answered-number}
-use Rattle.geometry.proofs.Laws.Shape.{both, by-test}
+use Rattle.geometry.proofs.Laws.Shape.{by-test}
 use Rattle.geometry.specs.Address.{isDomainId}
 use Rattle.geometry.specs.Questions.{Outcome, Question, answered, ask, firstNo, refusal}
 use Rattle.geometry.specs.Shape.{adus, storeLength}
@@ -24,11 +24,11 @@ use Rattle.model.specs.declared.table.Table.{Table}
 use Rattle.recorder.specs.Samples.{freeing, isOutOfRange, isOverQuota, isRefusedWith, noSamples, numberOr, sampleCommand}
 use Rattle.recorder.specs.Steps.{Again, Appends, Given, Latest, Readable, ServesWords, again, at-once, given, refused}
 use Rattle.rules.proofs.Recorder.{OldestOf, oldest}
-use Rattle.rules.specs.Calls.{Asked, BytesDue, Call, _asking_, _for_, append, calling, callingFor, latest, lending, noBytes, profileOf}
+use Rattle.rules.specs.Calls.{BytesDue, Call, _asking_, _for_, append, calling, callingFor, latest, lending, noBytes, profileOf}
 use Rattle.rules.specs.Claims.{Likewise, Shaped}
 use Rattle.rules.specs.Drive.{Drive, domainAt, overwritten, size}
-use Rattle.rules.specs.Effects.{BytesFilled, Fills, FillsIf, Served, Serves, accepted, answerTo, effect, questions, step, verdict, wordsFilled}
-use Rattle.rules.specs.Questions.{exists, firstQuestions, isCount, storeFits}
+use Rattle.rules.specs.Effects.{FillsIf, Served, Serves, accepted, effect, questions, step, verdict, wordsFilled}
+use Rattle.rules.specs.Questions.{exists, isCount, storeFits}
 use Rattle.rules.specs.Soundness.{sound}
 use Rattle.rules.specs.Recorder.{hasRecorderShape, latestQuestions, oldestClosed, sampleWrite}
 use Rattle.rules.proofs.Claims as claims
@@ -39,7 +39,7 @@ use Rattle.rules.proofs.Kept.OneBlock.{few-blocks}
 use Rattle.rules.proofs.Kept.Tested.{facts-of}
 use Rattle.rules.proofs.Noninterference.Requests.{before-no}
 use Rattle.rules.proofs.Questions.{answered-yes}
-use Rattle.tables.specs.Serving.{ServesFor, answering, drive, served}
+use Rattle.tables.specs.Serving.{ServesFor, drive, served}
 use Rattle.tables.specs.declared.served.Served as both-types
 
 -- ---- Answers

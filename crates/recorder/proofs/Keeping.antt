@@ -1,15 +1,15 @@
 -- What `give_latest` needs: the rows that are gathered tell what the domain keeps, and its answers are those of the rules.
-use Prim.Native.Nat.{ℕ, zero, suc, _+_, _*_, _/_, _%_, _≤_, _<_, min}
-use mathlib.Core.Bool.{Bool, true, false, true≢false, _&&_, cond}
+use Prim.Native.Nat.{ℕ, zero, suc, _+_, _*_, _%_, _≤_, _<_}
+use mathlib.Core.Bool.{Bool, true, false, _&&_}
 use mathlib.Core.List.{List, [], _∷_, _++_, append-nil}
 use mathlib.Core.Option.{Option, none, some}
 use mathlib.Core.Path.{_≡_, refl, sym, ap, ap₂, _∙_, subst}
 use native.Mathlib.Nat.{mul-le-mul-right}
 use native.Mathlib.Omega.{arith}
-use lib.Dec.{eqb, leb, ltb}
+use lib.Dec.{leb, ltb}
 use lib.ListN.{List·getD-append, drop, getD, length, length-append, take}
 use lib.Seq.{take-append-seam}
-use borrow.Author.Tests.{eqb-true, le-leb, leb-true, lt-leb, ltb-false, ltb-true}
+use borrow.Author.Tests.{le-leb, lt-leb, ltb-false, ltb-true}
 use Rattle.geometry.proofs.Laws.Shape.{by-test, is-between, limits}
 use Rattle.geometry.specs.Questions.{answered, firstNo}
 use Rattle.geometry.specs.Shape.{adusPerBlock, counted, storeLength, stretchStart}

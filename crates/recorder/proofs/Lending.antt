@@ -194,13 +194,20 @@ module _ {M : Type 1} (𝓤 : URA M) (H : Heap 𝓤) (A : Atoms 𝓤) (W : Given
       rewrite ! 0 (λ (u : Val). ‵ (fat fullShare layout (b L) (o L) u)) (ap only are) refl $ move ! (3 ∷ 4 ∷ []) $ fjoin ! $ move ! (3 ∷ 0 ∷ []) $ fjoin ! $
       move ! (2 ∷ 0 ∷ []) $ fjoin ! $ move ! (1 ∷ 0 ∷ []) $ at-once ! $ check ! (subst (Is table.the-row (z .table)) are is) $ done !))
 
+  -- The borrow is closed again: with the table as it lies there, ..
+  pub shuts-again : (z : State) → ent 𝓤 (sep 𝓤 (sem 𝓤 H A (partAt table.the-row fullShare (z .table) (b L) (o L))) (sem 𝓤 H A (Opened L z))) (H .⇛ (sem 𝓤 H A (Owned L z)))
+  shuts-again z =
+      qed W (‵ (partAt table.the-row fullShare (z .table) (b L) (o L)) ∷ ‵ (Opened L z) ∷ []) ∵ updating ! $
+      move ! (1 ∷ []) $ fsplit ! $ move ! (1 ∷ []) $ fsplit ! $ move ! (1 ∷ []) $ fsplit ! $ move ! (4 ∷ 3 ∷ 2 ∷ 0 ∷ []) $
+      close-ref ! tt (mem table.the-row) (z .table) $ at-once ! $ feqI ! (List Val) (ptr-vals (L .table)) (ptr-vals (L .table)) refl $ fjoin3 ! $ fjoin ! $ fjoin ! $ done !
+
+  -- .. and with its machine value.
   pub shuts : (z : State) → Is table.the-row (z .table) (tableValue L z ∷ []) → ent 𝓤 (sep 𝓤 (sem 𝓤 H A (TableLies L z)) (sem 𝓤 H A (Opened L z))) (H .⇛ (sem 𝓤 H A (Owned L z)))
   shuts z is =
       qed W (‵ (TableLies L z) ∷ ‵ (Opened L z) ∷ []) ∵ updating ! $
       owned ! table.the-row (Is table.the-row) (makes table.the-type the-plain 𝓤 H A) (z .table) (tableValue L z ∷ []) is $ move ! (1 ∷ 0 ∷ []) $
       use2 W (‵ (partAt table.the-row fullShare (z .table) (b L) (o L))) (part-in 𝓤 H A W table.the-row refl fullShare (z .table) (b L) (o L) (tableValue L z)) $
-      move ! (1 ∷ []) $ fsplit ! $ move ! (1 ∷ []) $ fsplit ! $ move ! (1 ∷ []) $ fsplit ! $ move ! (4 ∷ 3 ∷ 2 ∷ 0 ∷ []) $
-      close-ref ! tt (mem table.the-row) (z .table) $ at-once ! $ feqI ! (List Val) (ptr-vals (L .table)) (ptr-vals (L .table)) refl $ fjoin3 ! $ fjoin ! $ fjoin ! $ done !
+      use2 W (later (‵ (Owned L z))) (shuts-again z) $ await ! tt $ at-once ! $ done !
 
   -- ---- All three are lent on
 

@@ -7,5 +7,6 @@ pub mod Keeping
 pub mod Oldest
 pub mod Slices
 pub mod Lending
+pub mod Records
 pub mod Calls
 pub mod Contracts

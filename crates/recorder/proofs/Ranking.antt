@@ -1,16 +1,15 @@
 -- The keys of a domain's blocks in order are its blocks by rising serial, and what those have written is what it keeps.
-use Prim.Native.Nat.{ℕ, zero, suc, _+_, _-_, _*_, _/_, _%_, _≤_, _<_, min}
-use mathlib.Core.Bool.{Bool, true, false, true≢false, _&&_, cond}
+use Prim.Native.Nat.{ℕ, zero, suc, _+_, _-_, _*_, _/_, _%_, _≤_, _<_}
+use mathlib.Core.Bool.{Bool, true, false, _&&_, cond}
 use mathlib.Core.List.{List, [], _∷_, _++_, append-nil}
 use mathlib.Core.Option.{Option, none, some}
 use mathlib.Core.Path.{_≡_, refl, sym, ap, ap₂, _∙_, subst}
 use native.Mathlib.Omega.{arith}
 use lib.Dec.{eqb, leb, ltb}
-use lib.ListN.{drop, getD, length, take}
 use borrow.Author.Tests.{eq-eqb, eqb-true, le-leb, le-ltb, leb-false, leb-true, lt-leb, lt-ltb, ltb-false, ltb-true, ne-eqb}
 use Rattle.geometry.proofs.Laws.Shape.{both, by-test}
 use Rattle.model.specs.declared.table.Table.{Table}
-use Rattle.recorder.specs.Newest.{keyFor, keyOf, keysTo, partOf, partsOf, rankedTo}
+use Rattle.recorder.specs.Newest.{keyFor, keyOf, keysTo, rankedTo}
 use Rattle.rules.proofs.Counting.{by-eq}
 use Rattle.rules.specs.Drive.{Drive, blockAt, blockWith, domainAt, heldBy, size}
 use Rattle.rules.proofs.Kept.Facts.{Facts}
@@ -43,9 +42,6 @@ rises-more low x (y ∷ xs) l r u =
     (λ z some-there. u z (omega (arith, some-there))))
 
 -- ---- Keys
-
-key-serial : (serial n : ℕ) → n < 256 → keyOf serial n / 256 ≡ serial
-key-serial serial n l = omega (arith, l)
 
 pub key-number : (serial n : ℕ) → n < 256 → keyOf serial n % 256 ≡ n
 key-number serial n l = omega (arith, l)

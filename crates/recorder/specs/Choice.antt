@@ -1,19 +1,25 @@
 -- The oldest Closed block as it is found, block by block.
-use Prim.Native.Nat.{ℕ}
+use Prim.Native.Nat.{ℕ, zero, suc}
 use mathlib.Core.Bool.{_&&_, cond}
-use mathlib.Core.Option.{Option, none, some}
+use mathlib.Core.List.{List}
 use lib.Dec.{ltb}
+use lib.ListN.{getD}
 use Rattle.model.specs.declared.block.Block.{Block}
-use Rattle.model.specs.declared.table.Table.{Table}
-use Rattle.rules.specs.Drive.{blockAt, closedOf}
+use Rattle.rules.specs.Drive.{clearBlock, closedOf}
 use Rattle.recorder.specs.declared.choice.Found.{Found}
-use Rattle.recorder.specs.declared.choice.Found.the-variants.{At, Nothing}
 
+-- A block by its number and its serial; and none yet: a number that no drive has, and a serial above those of all blocks.
+abbrev pub found : ℕ → ℕ → Found
+found n serial = record { number = n; serial = serial }
+
+abbrev pub noneFound : Found
+noneFound = found 18446744073709551615 18446744073709551615
+
+-- Block n, if it is Closed, the domain's and older than the one found before it; else that one.
 unfoldable pub olderOf : Found → ℕ → Block → ℕ → Found
-olderOf Nothing n b d = cond (closedOf d b) (At n (b .serial)) Nothing
-olderOf (At m serial) n b d = cond (closedOf d b && ltb (b .serial) serial) (At n (b .serial)) (At m serial)
+olderOf f n b d = cond (closedOf d b && ltb (b .serial) (f .serial)) (found n (b .serial)) f
 
--- A number, with the serial of its block.
-unfoldable pub foundOf : Table → Option ℕ → Found
-foundOf t none = Nothing
-foundOf t (some n) = At n (blockAt t n .serial)
+-- What is found in the first n of some records.
+unfoldable pub foundIn : List Block → ℕ → ℕ → Found
+foundIn bs d zero = noneFound
+foundIn bs d (suc n) = olderOf (foundIn bs d n) n (getD bs n clearBlock) d

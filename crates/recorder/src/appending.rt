@@ -1,5 +1,7 @@
 // One sample more.
 use crate::choice::freeing_command;
+use crate::choice::oldest_closed;
+use crate::choice::records_of;
 use crate::samples::is_over_quota;
 use crate::samples::sample_command;
 use crate::serving::serve_words;
@@ -22,8 +24,9 @@ pub(crate) fn write_again(
 ) -> Answer
     ensures { λ r. ⌜ Again (now (table .entry)) domain command (now (store .entry)) (now (words .entry)) (answering (now (table .exit)) r) (now (store .exit)) (now (words .exit)) ⌝ }
 {
-    let held = *table;
-    let free = freeing_command(held, domain);
+    let records = records_of(table.config.blocks);
+    let found = oldest_closed(&table.blocks[..records], domain);
+    let free = freeing_command(found, domain);
     let freed = serve_words(table, free, store, words);
     serve_words(table, command, store, words)
 }

@@ -1,73 +1,63 @@
 // The block that a domain gives up: of its Closed blocks the one with the least serial.
 use model::Block;
 use model::Command;
-use model::Table;
 use tables::is_closed;
 use tables::is_held;
 ghost use mathlib.Core.Path.{_≡_};
 ghost use Prim.Native.Nat.{min};
-ghost use Rattle.rules.specs.Recorder.{oldestClosed};
-ghost use Rattle.recorder.specs.Samples.{freeing};
-ghost use Rattle.recorder.specs.Choice.{foundOf, olderOf};
+ghost use lib.ListN.{length};
+ghost use Rattle.model.specs.declared.command.Command.the-variants.{Free};
+ghost use Rattle.recorder.specs.Choice.{foundIn, olderOf};
 
-// The oldest block so far, by its number and its serial.
-enum Found {
-    Nothing,
-    At(u64, u32),
+// The oldest block so far, by its number and its serial. Where there is none, they are a number that no drive has and a
+// serial above those of all blocks. It is no enum: the gap beside an enum's tag is copied through memory for every block.
+pub(crate) struct Found {
+    number: u64,
+    serial: u64,
 }
 
 // Block n, or the one found before it.
 fn older(found: Found, n: u64, block: Block, domain: u64) -> Found
     ensures { λ r. ⌜ r ≡ olderOf found n block domain ⌝ }
 {
-    let closed = is_held(block, domain) & is_closed(block);
-    match found {
-        Found::Nothing => {
-            if closed {
-                Found::At(n, block.serial)
-            } else {
-                Found::Nothing
-            }
-        }
-        Found::At(_, serial) => {
-            if closed & (block.serial < serial) {
-                Found::At(n, block.serial)
-            } else {
-                found
-            }
-        }
+    let serial = block.serial as u64;
+    if is_held(block, domain) & is_closed(block) & (serial < found.serial) {
+        Found { number: n, serial }
+    } else {
+        found
     }
 }
 
 // How many records are looked at: those of the drive, and no more than there are.
-fn records_of(blocks: u64) -> usize
+pub(crate) fn records_of(blocks: u64) -> usize
     ensures { λ r. ⌜ r ≡ min blocks 256 ⌝ }
 {
     if blocks < 256 { blocks as usize } else { 256 }
 }
 
-fn oldest_closed(table: Table, domain: u64) -> Found
-    ensures { λ r. ⌜ r ≡ foundOf table (oldestClosed table domain) ⌝ }
+// The oldest Closed block of a domain, in lent records.
+pub(crate) fn oldest_closed(blocks: &[Block], domain: u64) -> Found
+    ensures { λ r. ⌜ r ≡ foundIn (now (blocks .entry)) domain (length (now (blocks .entry))) ⌝ }
 {
-    let records = records_of(table.config.blocks);
-    let mut found = Found::Nothing;
-    for i in 0..records {
-        let block = table.blocks[i];
-        found = older(found, i as u64, block, domain);
+    let mut found = Found {
+        number: 18446744073709551615,
+        serial: 18446744073709551615,
+    };
+    let mut n = 0;
+    while n < blocks.len() {
+        let block = blocks[n];
+        found = older(found, n as u64, block, domain);
+        n += 1;
     }
     found
 }
 
-// Free of the oldest Closed block; of a number that no drive has, if there is none.
-pub(crate) fn freeing_command(table: Table, domain: u64) -> Command
-    ensures { λ r. ⌜ r ≡ freeing table domain ⌝ }
+// Free of the block that was found.
+pub(crate) fn freeing_command(found: Found, domain: u64) -> Command
+    ensures { λ r. ⌜ r ≡ Free domain (found .number) ⌝ }
 {
-    let found = oldest_closed(table, domain);
-    match found {
-        Found::Nothing => Command::Free {
-            domain,
-            block: 18446744073709551615,
-        },
-        Found::At(n, _) => Command::Free { domain, block: n },
+    Command::Free {
+        domain,
+        block: found.number,
     }
 }

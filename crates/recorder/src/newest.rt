@@ -2,7 +2,6 @@
 use model::Block;
 use model::Table;
 use tables::is_held;
-ghost use mathlib.Core.Bool.{true};
 ghost use mathlib.Core.Path.{_≡_};
 ghost use Prim.Native.Nat.{_+_, _*_, _%_, _≤_, _<_, min};
 ghost use lib.ListN.{drop, getD, length, take};

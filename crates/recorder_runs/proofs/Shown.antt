@@ -1,6 +1,6 @@
 -- The two lists are as NotEmpty.antt says.
 use mathlib.Core.Bool.{true}
-use mathlib.Core.List.{List, [], _∷_}
+use mathlib.Core.List.{[], _∷_}
 use mathlib.Core.Path.{_≡_, refl}
 use Rattle.recorder_runs.specs.Lists.{busy, busyFirst, busyRest, numbersFrom, quiet, sameInputs}
 use Rattle.recorder_runs.specs.NotEmpty.{Shown, busyNumbers}

@@ -1,33 +1,29 @@
 -- What an append is, in terms of the manager's commands: the write; or, where that gets 13, a Free and then the write, which is never
 -- refused.
-use Prim.Native.Nat.{ℕ, zero, suc, _+_, _-_, _*_, _/_, _≤_, _<_}
-use mathlib.Core.Bool.{Bool, true, false, true≢false, _&&_, cond}
+use Prim.Native.Nat.{ℕ, zero, suc, _+_, _-_, _/_, _≤_, _<_}
+use mathlib.Core.Bool.{Bool, true, false, true≢false}
 use mathlib.Core.List.{List, [], _∷_, _++_}
 use mathlib.Core.Option.{Option, none, some}
-use mathlib.Core.Path.{_≡_, refl, sym, ap, ap₂, _∙_, subst}
+use mathlib.Core.Path.{_≡_, refl, sym, ap, _∙_, subst}
 use native.Mathlib.Omega.{arith}
 use lib.Dec.{eqb, leb, ltb}
-use lib.ListN.{length}
-use borrow.Author.Tests.{eq-eqb, eqb-true, le-leb, leb-false, leb-true, lt-ltb, ltb-true, ne-eqb}
+use borrow.Author.Tests.{eq-eqb, eqb-true, le-leb, leb-false, lt-ltb, ne-eqb}
 use Rattle.geometry.proofs.Laws.Shape.{both, by-test, is-between, limits}
 use Rattle.geometry.specs.Address.{isDomainId}
 use Rattle.geometry.specs.Questions.{Question, ask, firstNo}
 use Rattle.geometry.specs.Shape.{adus, adusPerBlock, storeLength}
-use Rattle.geometry.specs.declared.shape.Adus.{Adus}
-use Rattle.geometry.specs.declared.shape.Config.{Config}
 use Rattle.model.specs.declared.block.Block.{Block}
 use Rattle.model.specs.declared.block.State.{State}
 use Rattle.model.specs.declared.block.State.the-variants as state
-use Rattle.model.specs.declared.command.Command.the-variants.{Free, WriteByPlacement}
-use Rattle.model.specs.declared.table.Domain.{Domain}
+use Rattle.model.specs.declared.command.Command.the-variants.{Free}
 use Rattle.model.specs.declared.table.Table.{Table}
-use Rattle.rules.specs.Blocks.{newBlocks, room, roomIn}
+use Rattle.rules.specs.Blocks.{newBlocks, room}
 use Rattle.rules.specs.Calls.{Call, _asking_, _for_, append}
 use Rattle.rules.specs.Claims.{LentOwn, Likewise, Oldest, Shaped}
-use Rattle.rules.specs.Drive.{Drive, blockAt, closedOf, domainAt, heldBy, heldCount, isClosed, isOpenFor, isPlacedState, openBlock, openCount, size}
+use Rattle.rules.specs.Drive.{Drive, blockAt, domainAt, heldBy, heldCount, isClosed, isOpenFor, openBlock, openCount, size}
 use Rattle.rules.specs.Effects.{effect, questions, step, verdict}
-use Rattle.rules.specs.Observation.{Holding, holdingAt}
-use Rattle.rules.specs.Questions.{coveredAfter, exists, firstQuestions, isCount, isHeld, mayOpenFor, serialsLeft, storeFits, userAddressesFit, withinQuota}
+use Rattle.rules.specs.Observation.{holdingAt}
+use Rattle.rules.specs.Questions.{coveredAfter, exists, firstQuestions, isCount, mayOpenFor, serialsLeft, storeFits, userAddressesFit, withinQuota}
 use Rattle.rules.specs.Recorder.{freedIfAny, getsThirteen, hasRecorderShape, oldestClosed, sampleWrite, afterFreeing}
 use Rattle.rules.specs.Soundness.{sound}
 use Rattle.rules.proofs.Counting.{by-eq}

@@ -1,8 +1,6 @@
 -- What an accepted append was asked, and that it leaves a sound table sound: it is a Write by placement in the drive with room.
 use Prim.Native.Nat.{ℕ}
-use mathlib.Core.Bool.{Bool, true, _&&_}
-use mathlib.Core.List.{List}
-use mathlib.Core.Option.{some}
+use mathlib.Core.Bool.{true}
 use mathlib.Core.Path.{_≡_, refl, ap, _∙_}
 use lib.Dec.{eqb, leb, ltb}
 use Rattle.geometry.proofs.Laws.Shape.{both, is-between}
@@ -11,18 +9,16 @@ use Rattle.geometry.specs.Questions.{firstNo}
 use Rattle.geometry.specs.Shape.{adus, storeLength}
 use Rattle.geometry.specs.declared.shape.Config.{Config}
 use Rattle.model.specs.declared.table.Domain.{Domain}
-use Rattle.model.specs.declared.table.Table.{Table}
 use Rattle.rules.specs.Blocks.{newBlocks}
 use Rattle.rules.specs.Calls.{Call, Lengths, _asking_, _for_, append}
 use Rattle.rules.specs.Claims.{Oldest}
-use Rattle.rules.specs.Drive.{Drive, blockAt, clearDomain, domainAt, heldBy, isClosed, openBlock, size}
+use Rattle.rules.specs.Drive.{Drive, blockAt, domainAt, heldBy, isClosed, openBlock, size}
 use Rattle.rules.specs.Effects.{effect, questions, verdict}
 use Rattle.rules.specs.Questions.{coveredAfter, exists, isCount, mayOpenFor, serialsLeft, storeFits, userAddressesFit, withinQuota}
-use Rattle.rules.specs.Recorder.{freedIfAny, hasRecorderShape, sampleWrite, afterFreeing}
+use Rattle.rules.specs.Recorder.{hasRecorderShape, sampleWrite, afterFreeing}
 use Rattle.rules.specs.Soundness.{sound}
 use Rattle.rules.proofs.Kept.Asked.{written-placement-sequel}
 use Rattle.rules.proofs.Kept.Changes.{HeldBlock, freed-sequel}
-use Rattle.rules.proofs.Kept.Facts.{Facts}
 use Rattle.rules.proofs.Kept.Fit.{Fit, fit-blocks}
 use Rattle.rules.proofs.Kept.Sequel.{OwnSequel, same-sequel, sequel-then}
 use Rattle.rules.proofs.Kept.Tested.{facts-sound}

@@ -1,9 +1,9 @@
 -- The same append, and the same reading, in two drives that the domain cannot tell apart.
-use Prim.Native.Nat.{ℕ, _≤_, _<_}
-use mathlib.Core.Bool.{Bool, true, false, true≢false, _&&_, cond}
+use Prim.Native.Nat.{ℕ, _<_}
+use mathlib.Core.Bool.{true, false, true≢false, _&&_}
 use mathlib.Core.List.{List, []}
 use mathlib.Core.Option.{Option, none, some}
-use mathlib.Core.Path.{_≡_, refl, sym, ap, ap₂, _∙_, subst}
+use mathlib.Core.Path.{_≡_, refl, sym, ap, _∙_}
 use native.Mathlib.Omega.{arith}
 use lib.Dec.{eqb, leb}
 use lib.ListN.{length}
@@ -19,7 +19,7 @@ use Rattle.rules.specs.Counting.{implies}
 use Rattle.rules.specs.Drive.{Drive, blockAt, closedOf, domainAt, heldBy, isClosed, isClosedState, size}
 use Rattle.rules.specs.Effects.{effect, questions, verdict}
 use Rattle.rules.specs.Noninterference.{reservesAll}
-use Rattle.rules.specs.Observation.{Holding, Holds, SameHoldings, holdingAt, nameOf, serialAt}
+use Rattle.rules.specs.Observation.{Holding, Holds, nameOf, serialAt}
 use Rattle.rules.specs.Questions.{exists, isCount}
 use Rattle.rules.specs.Recorder.{freedIfAny, getsThirteen, hasRecorderShape, kept, lastOf, oldestClosed, sampleWrite, afterFreeing}
 use Rattle.rules.proofs.Kept.Calls.{course-fit, course-on}
@@ -27,12 +27,11 @@ use Rattle.rules.proofs.Kept.Recorder.{append-writes, room-domain, room
 use Rattle.rules.proofs.Noninterference.Samples.{kept-same}
 use Rattle.rules.proofs.Kept.Views.{Alike, alike-back}
 use Rattle.rules.proofs.Noninterference.Blocks.{freed-alike}
-use Rattle.rules.proofs.Noninterference.Common.{Pair, exists-same, first-same-for, same-name}
+use Rattle.rules.proofs.Noninterference.Common.{Pair, first-same-for, same-name}
 use Rattle.rules.proofs.Noninterference.Pairing.{partner, same-holdings}
 use Rattle.rules.proofs.Noninterference.Reads.{wordsTold}
 use Rattle.rules.proofs.Noninterference.Twins.{Twin, ask-same, told}
 use Rattle.rules.proofs.Noninterference.WriteByPlacement.{later-same, placement-alike, placement-told, placement-verdicts}
-use Rattle.rules.proofs.Questions.{answered-yes}
 use Rattle.rules.proofs.Recorder.{OldestOf, oldest}
 
 -- ---- The block that is freed

@@ -18,7 +18,7 @@ use Rattle.model.specs.declared.table.Table.{Table}
 use Rattle.rules.specs.Claims.{KeptAt, writtenWhere}
 use Rattle.rules.specs.Counting.{sumTo}
 use Rattle.rules.specs.Drive.{Drive, blockAt, blockWith, blockWithTo, domainAt, heldBy, overwritten, size}
-use Rattle.rules.specs.Observation.{Holding, Holds, SameHoldings, holdingAt, serialAt}
+use Rattle.rules.specs.Observation.{Holding, Holds, SameHoldings, serialAt}
 use Rattle.rules.specs.Recorder.{kept, keptTo, writtenIn}
 use Rattle.rules.proofs.Blocks.{below-next}
 use Rattle.rules.proofs.Counting.{by-eq, sum-same, sum-swap, sum-term-alone, sum-zero}

@@ -1,9 +1,9 @@
 -- Along a list of calls in which only the recorder uses a domain.
-use Prim.Native.Nat.{ℕ, zero, suc, _+_, _-_, _*_, _/_, _%_, _^_, _≤_, _<_}
-use mathlib.Core.Bool.{Bool, true, false, true≢false, not, _&&_, _||_, cond}
+use Prim.Native.Nat.{ℕ, _+_, _-_, _/_, _^_, _≤_, _<_}
+use mathlib.Core.Bool.{Bool, true, false, true≢false, not, cond}
 use mathlib.Core.List.{List, [], _∷_, _++_, append-assoc, append-nil}
 use mathlib.Core.Option.{Option, none, some}
-use mathlib.Core.Path.{_≡_, refl, sym, ap, ap₂, _∙_, subst}
+use mathlib.Core.Path.{_≡_, refl, sym, ap, _∙_, subst}
 use native.Mathlib.Nat.{div-add-mod'}
 use native.Mathlib.Omega.{arith}
 use lib.Dec.{eqb, leb}
@@ -17,10 +17,9 @@ use Rattle.geometry.specs.Shape.{adus, adusPerBlock, storeLength}
 use Rattle.geometry.specs.declared.shape.Adus.{Adus}
 use Rattle.geometry.specs.declared.shape.Config.{Config}
 use Rattle.geometry.specs.declared.shape.Planes.{Planes}
-use Rattle.model.specs.Blocks.{countedDown, countedFrom}
+use Rattle.model.specs.Blocks.{countedDown}
 use Rattle.model.specs.declared.block.Block.{Block}
 use Rattle.model.specs.declared.block.Way.the-variants.{Placement}
-use Rattle.model.specs.declared.command.Command.{Command}
 use Rattle.model.specs.declared.command.Command.the-variants.{ChangeCapacity, Close, Create, Delete, Erase, Free, List as Listing, Page, Pulse, Read}
 use Rattle.model.specs.declared.command.Command.the-variants.{WriteByBlock, WriteByPlacement}
 use Rattle.model.specs.declared.table.Domain.{Domain}
@@ -47,7 +46,7 @@ use Rattle.rules.proofs.Kept.Fit.{Fit, fit-blocks}
 use Rattle.rules.proofs.Kept.Mild.{counted-mild}
 use Rattle.rules.proofs.Kept.OneBlock.{held-owned}
 use Rattle.rules.proofs.Kept.Onwards.{Onward, OpenTo, next-block, next-openable, next-writable, open-facts, open-to, takes}
-use Rattle.rules.proofs.Kept.Placement.{first-writable, firstOf, is-open, newFor, none-onward, placement-is, restOf}
+use Rattle.rules.proofs.Kept.Placement.{first-writable, firstOf, is-open, newFor, none-onward, placement-is}
 use Rattle.rules.proofs.Kept.Placement as placing
 use Rattle.rules.proofs.Kept.Recorder.{append-writes, room-domain, room-fit, room-same}
 use Rattle.rules.proofs.Kept.Tested.{facts-of, facts-sound}

@@ -1,18 +1,18 @@
 -- A domain that only the recorder uses: what its blocks are, what it keeps, and that every change leaves it so.
-use Prim.Native.Nat.{ℕ, zero, suc, _+_, _-_, _*_, _/_, _≤_, _<_, min}
-use mathlib.Core.Bool.{Bool, true, false, true≢false, _&&_, cond}
-use mathlib.Core.List.{List, [], _∷_, _++_, append-assoc, append-nil}
-use mathlib.Core.Option.{Option, none, some}
+use Prim.Native.Nat.{ℕ, zero, suc, _+_, _-_, _*_, _≤_, _<_, min}
+use mathlib.Core.Bool.{true, false, true≢false, _&&_, cond}
+use mathlib.Core.List.{List, [], _∷_, _++_, append-assoc}
+use mathlib.Core.Option.{none, some}
 use mathlib.Core.Path.{_≡_, refl, sym, ap, ap₂, _∙_, subst}
 use native.Mathlib.Nat.{add-mul, mul-le-mul-right, zero-mul}
 use native.Mathlib.Numerals.{add-one}
 use native.Mathlib.Omega.{arith}
-use lib.Dec.{eqb, leb, ltb}
-use lib.ListN.{drop, getD, length, length-append, length-drop, length-set, length-take, take, take-append-drop}
+use lib.Dec.{eqb, ltb}
+use lib.ListN.{drop, getD, length, length-append, length-set, take, take-append-drop}
 use lib.Seq.{drop-append-add}
-use borrow.Author.Tests.{eq-eqb, eqb-true, leb-true, ltb-false, ltb-true}
-use Rattle.geometry.proofs.Laws.Shape.{both, by-test}
-use Rattle.geometry.specs.Shape.{adus, adusPerBlock}
+use borrow.Author.Tests.{eq-eqb, eqb-true, ltb-false}
+use Rattle.geometry.proofs.Laws.Shape.{by-test}
+use Rattle.geometry.specs.Shape.{adusPerBlock}
 use Rattle.geometry.specs.declared.shape.Adus.{Adus}
 use Rattle.geometry.specs.declared.shape.Config.{Config}
 use Rattle.model.specs.Blocks.{closed, countedFrom, writtenOn}
@@ -21,21 +21,20 @@ use Rattle.model.specs.declared.block.State.{State}
 use Rattle.model.specs.declared.block.State.the-variants as state
 use Rattle.model.specs.declared.block.Way.the-variants as way
 use Rattle.model.specs.declared.table.Domain.{Domain}
-use Rattle.model.specs.declared.table.Table.{Table}
 use Rattle.rules.specs.Blocks.{nextSerial, openedFor, withLast, writtenInto}
 use Rattle.rules.specs.Claims.{Oldest}
 use Rattle.rules.specs.Counting.{sumTo}
-use Rattle.rules.specs.Drive.{Drive, blockAt, clearDomain, domainAt, entriesOf, heldBy, heldCount, isClosed, isClosedState, isOpen, isOpenFor, isOpenState, isPlacedState, openBlock, overwritten, size}
+use Rattle.rules.specs.Drive.{Drive, blockAt, clearDomain, domainAt, entriesOf, heldBy, heldCount, isClosed, isClosedState, isOpen, isOpenFor, isOpenState, isPlacedState, overwritten, size}
 use Rattle.rules.specs.Observation.{Holding, Holds, holdingAt, serialAt}
 use Rattle.rules.specs.Recorder.{freedIfAny, hasRecorderShape, kept, keptTo, lastOf, writtenIn}
 use Rattle.rules.specs.Retention.{EndsWith, retained}
 use Rattle.rules.proofs.Counting.{by-eq}
 use Rattle.rules.proofs.Kept.Changes.{HeldBlock, Openable, Writable, freed-changed, freed-facts, freed-not-held, opened-changed, opened-domain, opened-held, opened-record}
-use Rattle.rules.proofs.Kept.Changes.{not-held, written-changed, written-domains, written-held, written-record}
+use Rattle.rules.proofs.Kept.Changes.{not-held, written-changed, written-domains, written-held}
 use Rattle.rules.proofs.Kept.Entries.{entries-length}
 use Rattle.rules.proofs.Kept.Facts.{Facts}
 use Rattle.rules.proofs.Kept.Holdings.{seenOf, writtenHolding}
-use Rattle.rules.proofs.Kept.Onwards.{OpenTo, open-to}
+use Rattle.rules.proofs.Kept.Onwards.{OpenTo}
 use Rattle.rules.proofs.Kept.Views.{Alike, Changed, alike-back, held-view, one, view, view-changed, weight}
 use Rattle.rules.proofs.Noninterference.Blocks.{fill-holding, open-holding}
 use Rattle.rules.proofs.Noninterference.Pairing.{partner, same-holdings}

@@ -3,7 +3,6 @@ use Prim.Native.Nat.{ℕ, _-_, _≤_}
 use mathlib.Core.Path.{_≡_, sym, subst}
 use native.Mathlib.Numerals.{add-one}
 use native.Mathlib.Omega.{arith}
-use borrow.Author.Needs.{needs}
 use Rattle.recorder.specs.Newest.{Gathers}
 use Rattle.recorder.proofs.Gathering.{gathered-few, nothing-gathered, one-gathered}
 use Rattle.recorder.proofs.newest.gather.Statement.{statement}

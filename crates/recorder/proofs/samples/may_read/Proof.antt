@@ -3,10 +3,6 @@ use mathlib.Core.Path.{ap₂}
 use borrow.Author.Needs.{needs}
 use Rattle.recorder.proofs.samples.may_read.Statement.{statement}
 use Rattle.recorder.proofs.samples.may_read.Tie as tie
-use Rattle.recorder.proofs.samples.may_read.Reads as reads
-use Rattle.recorder.proofs.samples.may_read.Lts as lts
-use Rattle.recorder.proofs.samples.has_recorder_shape.Reads as has-recorder-shape-reads
-use Rattle.tables.proofs.is_count.Reads as is-count-reads
 
 has-recorder-shape-requires : tie.Need-has-recorder-shape-requires
 has-recorder-shape-requires c κs = search needs
