@@ -201,6 +201,7 @@ record Any (form : Bool) (t : Table) (x : Asked) (store words bytes : List ℕ) 
   store-given : calls.given call .store ≡ store
   is : callOf call ≡ callingFor x store words (bytesFor x bytes)
 
+-- Every call of the program is one, for what it is given.
 any : (k : ProgramCall) (bytes : List ℕ) → calls.given k .bytes ≡ bytesFor (calls.given k .asks) bytes
     → Any (isInPlace k) (calls.given k .table) (calls.given k .asks) (calls.given k .store) (calls.given k .words) bytes
 any k bytes e = record {
