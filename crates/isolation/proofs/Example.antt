@@ -17,7 +17,7 @@ use Rattle.rules.specs.Runs.{begun}
 use Rattle.rules.specs.ProvedTable.{small}
 
 -- Where the run of a list begins.
-begins : {c : Config} {store : List ℕ} {ks : List Call} {f : ℕ → Bool} (r : RunOf c store ks f) → first (r .its) ≡ begun c store
+pub begins : {c : Config} {store : List ℕ} {ks : List Call} {f : ℕ → Bool} (r : RunOf c store ks f) → first (r .its) ≡ begun c store
 begins r = ap₂ begun (r .configured) (r .lent-first)
 
 pub not-empty : NotEmpty

@@ -9,4 +9,5 @@ pub mod Existing
 pub mod Example
 pub mod Moments
 pub mod Retention
+pub mod RecorderExample
 pub mod Claim

@@ -1,9 +1,9 @@
--- The two lists are as NotEmpty.antt says.
+-- The two lists are as specs/Shown.antt says.
 use mathlib.Core.Bool.{true}
 use mathlib.Core.List.{[], _∷_}
 use mathlib.Core.Path.{_≡_, refl}
 use Rattle.recorder_runs.specs.Lists.{busy, busyFirst, busyRest, numbersFrom, quiet, sameInputs}
-use Rattle.recorder_runs.specs.NotEmpty.{Shown, busyNumbers}
+use Rattle.recorder_runs.specs.Shown.{Shown, busyNumbers}
 use Rattle.rules.proofs.Machine.{machine}
 use Rattle.rules.specs.Example.{blocksOf, numbersTold, sevens, zeros}
 use Rattle.rules.specs.Noninterference.{fullyReserved, inputs}

@@ -1,3 +1,3 @@
--- Two lists of calls with a recorder as domain 1, and what is shown of them.
+-- Two lists of calls with a recorder as domain 1, and what the rules make of them.
 pub mod Lists
-pub mod NotEmpty
+pub mod Shown

@@ -1,2 +1,2 @@
-// Nothing runs here. Two lists of calls with a recorder among them, and the two runs of the program that make them, for which the hypotheses of
-// `isolation` and of `retention` hold. Read specs/Lists.antt first.
+// Nothing runs here: two lists of calls with a recorder among them, and what the rules make of them, computed. They take half a
+// minute, so they have a crate of their own; `isolation` makes two runs of the program of them. Read specs/Lists.antt first.

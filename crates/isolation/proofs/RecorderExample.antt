@@ -8,13 +8,14 @@ use lib.ListN.{List·getD-map, drop, getD, take}
 use Rattle.geometry.specs.Questions.{Outcome}
 use Rattle.geometry.specs.Shape.{adusPerBlock, eachInRange, planes, planesPerBlock, storeLength, withinLimits}
 use Rattle.geometry.specs.declared.shape.Config.{Config}
+use Rattle.isolation.proofs.Example.{begins}
 use Rattle.isolation.proofs.Existing.{runs-every-list}
 use Rattle.isolation.proofs.Reference.{exchanged-calls, run-replied}
 use Rattle.isolation.specs.Retention.{exchangeAt, noExchange}
 use Rattle.isolation.specs.Runs.{RunOf, exchangesOf, first, lendsAll, referenceAfter}
 use Rattle.recorder_runs.specs.Lists.{busy, busyFirst, busyRest, quiet}
-use Rattle.recorder_runs.specs.NotEmpty.{NotEmpty}
+use Rattle.isolation.specs.RecorderExample.{RecorderNotEmpty}
 use Rattle.recorder_runs.proofs.Shown.{shown}
 use Rattle.rules.specs.Calls.{Call}
 use Rattle.rules.specs.Counting.{rowTo}
 use Rattle.rules.specs.Drive.{Drive, domainAt}
@@ -25,10 +26,6 @@ use Rattle.rules.specs.Recorder.{hasRecorderShape}
 use Rattle.rules.specs.Retention.{recorderAlone}
 use Rattle.rules.specs.Runs.{answers, begun, run}
 use Rattle.rules.specs.ProvedTable.{small}
-
--- Where the run of a list begins.
-begins : {c : Config} {store : List ℕ} {ks : List Call} {f : ℕ → Bool} (r : RunOf c store ks f) → first (r .its) ≡ begun c store
-begins r = ap₂ begun (r .configured) (r .lent-first)
 
 -- The numbers that a run is told are those of its calls.
 told : (xs : List Exchange) (v : Drive) → Replied xs v → map (λ (x : Exchange). x .reply .answer .number) xs ≡ numbersTold (calls xs) v
@@ -61,9 +58,9 @@ behind : take 270 (drop 6 busy) ≡ busyRest
 unfolding rowTo
 behind = refl
 
-pub not-empty : NotEmpty
+pub recorder-not-empty : RecorderNotEmpty
 unfolding withinLimits eachInRange adusPerBlock planesPerBlock storeLength lendsAll rowTo
-not-empty =
+recorder-not-empty =
     let one = runs-every-list small (zeros .store) quiet (λ i. false) refl refl refl in
     let two = runs-every-list small (sevens .store) busy (λ i. eqb (i % 2) 1) refl refl refl in
     record {
