@@ -11,7 +11,7 @@
 #![cfg_attr(not(trial), allow(dead_code))]
 
 use bench::flat::{answer_number, call_of, call_words, fill_row, from_row, to_row, COMMAND_WORDS};
-use bench::manager::{Answer, Block, Command, Config, Listed, State, Table, ALL_ONES, ANY_BLOCK};
+use bench::manager::{Answer, Command, Config, Listed, State, Table, ALL_ONES, ANY_BLOCK};
 use bench::recorder::{self, Call};
 use std::hint::black_box;
 use std::process::ExitCode;
@@ -690,7 +690,7 @@ fn print_appends(rows: &[Row], times: &[Times]) {
 #[cfg(test)]
 mod tests {
     use super::*;
-    use bench::manager::Way;
+    use bench::manager::{Block, Way};
 
     #[test]
     fn every_list_goes_as_said_and_has_its_own_name() {
