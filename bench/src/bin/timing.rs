@@ -11,7 +11,9 @@
 #![cfg_attr(not(trial), allow(dead_code))]
 
 use bench::flat::{answer_number, call_of, call_words, fill_row, from_row, to_row, COMMAND_WORDS};
-use bench::manager::{Answer, Command, Config, Listed, State, Table, ALL_ONES, ANY_BLOCK};
+use bench::manager::{
+    Answer, Block, Command, Config, Listed, State, Table, Way, ALL_ONES, ANY_BLOCK,
+};
 use bench::recorder::{self, Call};
 use std::hint::black_box;
 use std::process::ExitCode;
@@ -67,6 +69,7 @@ fn main() -> ExitCode {
         Ok(times) => {
             print_growth(&rows, &times);
             print_appends(&rows, &times);
+            print_strides(&rows, &times);
             ExitCode::SUCCESS
         }
         Err(difference) => {
@@ -198,10 +201,7 @@ struct Busy {
 
 impl Busy {
     fn new(config: Config) -> Busy {
-        let (answer, table) = Table::start(config);
-        assert_eq!(answer, Answer::Done);
-        let store = vec![0; config.store_entries() as usize];
-        let mut busy = Busy { table, store, words: vec![0; 256], bytes: vec![0; 8 * 257] };
+        let mut busy = Busy::unused(config);
         for domain in 1..DOMAINS {
             busy.create(domain, 0);
         }
@@ -329,6 +329,8 @@ fn all_rows() -> Vec<Row> {
         rows.push(busy.row(&name, &erase_and_close()));
     }
     rows.extend(DRIVES.iter().flat_map(|&blocks| recordings(&Busy::new(shape(blocks, 1, 1)))));
+    rows.extend(DRIVES.iter().flat_map(|&blocks| other_tables(shape(blocks, 1, 1))));
+    rows.extend(DRIVES.iter().flat_map(|&blocks| strides(shape(blocks, 1, 1))));
     for row in &rows {
         assert!(row.is_as_said(), "{} at S {} goes otherwise", row.name, row.blocks());
     }
@@ -375,7 +377,7 @@ fn kinds(busy: &Busy) -> Vec<Row> {
         busy.row("Erase + Close", &erase_and_close()),
         busy.row("Erase any + Free", &[erase_any(OWN), free]),
         busy.row("Erase + Free", &[Command::Erase { domain: OWN, block: chosen }, free]),
-        busy.row("Close, Closed already", &[Command::Close { domain: OWN, block: 0 }]),
+        busy.row(CLOSE, &[Command::Close { domain: OWN, block: 0 }]),
         busy.row("Write 1 by placement, 128 times, + Free", &busy.writes(1)),
         busy.row("Erase + Write 1 by block, 128 times", &busy.writes_by_block()),
         busy.row("Read 1", &reads),
@@ -435,6 +437,138 @@ fn recordings(busy: &Busy) -> Vec<Row> {
         latest(16),
         latest(256),
     ]
+}
+
+/// A few kinds of command on a drive as after long use, and on one that is nearly empty.
+fn other_tables(config: Config) -> Vec<Row> {
+    let drives =
+        [("long used", Busy::long_used(config)), ("nearly empty", Busy::nearly_empty(config))];
+    let rows = |(drive, busy): &(&str, Busy)| {
+        let named = |kind: &str| format!("{kind}, {drive}");
+        let list = Command::List { domain: OWN, listed: Listed::Closed };
+        let (freed, writes) = busy.refilled();
+        vec![
+            busy.row(&named(CLOSE), &[Command::Close { domain: OWN, block: 0 }]),
+            freed.row(&named("Write 1 by placement"), &writes),
+            busy.row(&named("Erase + Write 1 by block"), &busy.writes_by_block()),
+            busy.row(&named("List closed"), &[list]),
+            busy.row(&named("Pulse 0"), &[Command::Pulse { seconds: 0 }]),
+        ]
+    };
+    drives.iter().flat_map(rows).collect()
+}
+
+const CLOSE: &str = "Close, Closed already";
+const STRIDES: [u32; 5] = [1, 256, 1_023, 1_024, 65_536];
+
+fn close_at_stride(stride: u32) -> String {
+    format!("{CLOSE}, serials {stride} apart")
+}
+
+/// The same command on drives where one domain holds most blocks, and their serials lie so far apart.
+fn strides(config: Config) -> Vec<Row> {
+    let close = Command::Close { domain: OWN, block: 0 };
+    STRIDES
+        .map(|stride| Busy::spread(config, stride).row(&close_at_stride(stride), &[close]))
+        .into()
+}
+
+// Drives in other states.
+impl Busy {
+    fn unused(config: Config) -> Busy {
+        let (answer, table) = Table::start(config);
+        assert_eq!(answer, Answer::Done);
+        let store = vec![0; config.store_entries() as usize];
+        Busy { table, store, words: vec![0; 256], bytes: vec![0; 8 * 257] }
+    }
+
+    /// Seven of eight blocks are full and Closed, and one domain's.
+    fn spread(config: Config, stride: u32) -> Busy {
+        let mut busy = Busy::unused(config);
+        busy.create(OWN, 0);
+        for number in 0..config.blocks / 8 * 7 {
+            busy.erase_and_write(OWN, number, None);
+        }
+        for block in &mut busy.table.blocks {
+            block.serial *= stride;
+        }
+        busy.table.domains[OWN as usize - 1].last *= stride;
+        assert!(busy.table.is_sound());
+        busy
+    }
+
+    /// Domain 1 holds a block that is full and Closed and one that is open; all others are Free.
+    fn nearly_empty(config: Config) -> Busy {
+        let mut busy = Busy::unused(config);
+        busy.create(OWN, 0);
+        busy.create(RESERVED, config.planes_in_block());
+        busy.erase_and_write(OWN, 0, None);
+        busy.write(OWN, 0, Some(60));
+        busy.age();
+        assert!(busy.table.is_sound());
+        busy
+    }
+
+    /// Up to 15 domains hold seven of eight blocks in turns: the first half of them Closed, and one open at every
+    /// placement. Serials lie anywhere below 8,192.
+    fn long_used(config: Config) -> Busy {
+        let mut busy = Busy::unused(config);
+        let domains = (config.blocks * 7 / 16).min(15);
+        let each = config.blocks * 7 / 8 / domains;
+        let placements = each.div_ceil(2);
+        let quota = config.blocks * config.planes_in_block();
+        for domain in 1..=domains {
+            busy.serve(Command::Create { domain, guarantee: 0, quota, placements, limit: 256 });
+        }
+        for number in 0..domains * each {
+            let (turn, domain) = (number / domains, number % domains + 1);
+            match turn.checked_sub(each - placements) {
+                None => busy.erase_and_write(domain, number, None),
+                Some(placement) => busy.write(domain, placement, Some(60)),
+            }
+        }
+        for block in &mut busy.table.blocks {
+            if block.state != State::Free {
+                block.serial = (block.serial * 2_741 + u32::from(block.holder) * 977) % 8_191 + 1;
+                block.erases = WORN + block.serial % 100;
+            }
+        }
+        for domain in &mut busy.table.domains[..domains as usize] {
+            domain.last = 8_192;
+        }
+        assert!(busy.table.is_sound());
+        busy
+    }
+
+    /// Writes at placement 0 of domain 1 that open a block, always the same, and fill it; then it is freed. The drive has
+    /// that block Free already.
+    fn refilled(&self) -> (Busy, Vec<Command>) {
+        let mut busy = self.clone();
+        let block = busy.open_block();
+        let free = Command::Free { domain: OWN, block };
+        busy.serve(free);
+        for record in &mut busy.table.blocks {
+            if record.state == State::Free {
+                record.erases = WORN;
+            }
+        }
+        busy.table.blocks[block as usize].erases = 0;
+        let write = |i: u64| Command::WriteByPlacement {
+            domain: OWN,
+            placement: 0,
+            start: i << 20,
+            count: 1,
+        };
+        let writes = (0..busy.table.config.adus_in_block()).map(write).chain([free]).collect();
+        (busy, writes)
+    }
+
+    /// The block that is open at placement 0 of domain 1.
+    fn open_block(&self) -> u64 {
+        let at = State::Open(Way::Placement(0));
+        let is = |block: &Block| u64::from(block.holder) == OWN && block.state == at;
+        self.table.blocks.iter().position(is).expect("an open block") as u64
+    }
 }
 
 // The recorder's domain.
@@ -687,10 +821,42 @@ fn print_appends(rows: &[Row], times: &[Times]) {
     }
 }
 
+/// What a command costs where serials lie apart, beside the same where they come one after the other.
+fn print_strides(rows: &[Row], times: &[Times]) {
+    let mut headed = false;
+    for blocks in DRIVES {
+        let time = |stride: u32| {
+            let name = close_at_stride(stride);
+            let is = |(row, _): &(&Row, &Times)| row.name == name && row.blocks() == blocks;
+            rows.iter().zip(times).find(is).map(|(_, times)| [times.other, times.rust])
+        };
+        let Some(next) = time(STRIDES[0]) else {
+            continue;
+        };
+        if !headed {
+            println!(
+                "\n{:42} {:>4} {:>10} {:>10}",
+                "times the same with serials 1 apart", "S", "Rattle", "Rust"
+            );
+            headed = true;
+        }
+        for stride in &STRIDES[1..] {
+            if let Some(apart) = time(*stride) {
+                let ratio = |side: usize| apart[side] / next[side];
+                println!(
+                    "{:42} {blocks:>4} {:>10.2} {:>10.2}",
+                    close_at_stride(*stride),
+                    ratio(0),
+                    ratio(1)
+                );
+            }
+        }
+    }
+}
+
 #[cfg(test)]
 mod tests {
     use super::*;
-    use bench::manager::{Block, Way};
 
     #[test]
     fn every_list_goes_as_said_and_has_its_own_name() {
@@ -699,7 +865,7 @@ mod tests {
             let same = |other: &Row| other.name == row.name && other.blocks() == row.blocks();
             assert!(!rows[..i].iter().any(same), "{} {}", row.name, row.blocks());
         }
-        assert_eq!(rows.len(), 4 * 18 + 12 + 3 + 4 * 8);
+        assert_eq!(rows.len(), 4 * 18 + 12 + 3 + 4 * 8 + 4 * 10 + 4 * 5);
     }
 
     #[test]

@@ -76,12 +76,12 @@ first-opens t n (choice.Block m erases) whole any same known =
 number-inside : (t : Table) (n : ℕ) → isErasable t n ≡ true → eqb n anyBlock ≡ false → n < size t
 number-inside t n range other = ltb-true n (size t) (the-first (isBlock (t .config) n) (eqb n anyBlock) range other)
 
-pub opens : (t : Table) (d n : ℕ) (x : Sight) → Sees t d x → SeesBlock t n x → SeesChoice t x → x .sound ≡ true → isErasable t n ≡ true
-    → Opens t n (erasedOf x n)
+pub opens : (t : Table) (d n : ℕ) (x : Sight) → Sees t d x → SeesBlock t n x → (eqb n anyBlock ≡ true → SeesChoice t x) → x .sound ≡ true
+    → isErasable t n ≡ true → Opens t n (erasedOf x n)
 unfolding erasedOf
 opens t d n x s b f e range =
     by-test (eqb n anyBlock)
-    (λ any. rw any (first-opens t n (x .first) (sym (s .tested) ∙ e) any (f .first-chosen e) (f .first-erases e)))
+    (λ any. rw any (first-opens t n (x .first) (sym (s .tested) ∙ e) any (f any .first-chosen e) (f any .first-erases e)))
     (λ other. rw other (rw other refl, sym (b .same-block e (number-inside t n range other))))
 
 -- It is one of the drive.

@@ -29,6 +29,8 @@ ghost use Rattle.geometry.specs.Questions.{firstNo};
 ghost use Rattle.geometry.specs.Shape.{withinLimits};
 ghost use Rattle.model.specs.declared.command.Command.the-variants.{Erase};
 ghost use Rattle.model.specs.declared.table.Table.{Table};
+ghost use lib.Dec.{eqb};
+ghost use Rattle.rules.specs.Blocks.{anyBlock};
 ghost use Rattle.survey.specs.Sight.{Seen, Sees, SeesBlock, SeesChoice};
 ghost use Rattle.tables.specs.Changing.{outcomeServed};
 ghost use Rattle.tables.specs.Serving.{ServesCommand, served};
@@ -116,8 +118,8 @@ fn erased_block(sight: Sight, block: u64) -> Erased
 
 // Opens a block with entries of all ones. Where none is found none is opened.
 pub fn erase(sight: Sight, domain: u64, block: u64, store: &mut [u64]) -> Outcome
-    requires { ⌜ ((t : Table) × Sees t domain sight × SeesBlock t block sight × SeesChoice t sight) ⌝ }
-    ensures { λ r. ⌜ ((t : Table) (words bytes : List ℕ) → Sees t domain sight → SeesBlock t block sight → SeesChoice t sight → ServesCommand t (Erase domain block) (now (store .entry)) words bytes (served (outcomeServed t r) (now (store .exit)) words bytes)) ⌝ }
+    requires { ⌜ ((t : Table) × Sees t domain sight × SeesBlock t block sight × (eqb block anyBlock ≡ true → SeesChoice t sight)) ⌝ }
+    ensures { λ r. ⌜ ((t : Table) (words bytes : List ℕ) → Sees t domain sight → SeesBlock t block sight → (eqb block anyBlock ≡ true → SeesChoice t sight) → ServesCommand t (Erase domain block) (now (store .entry)) words bytes (served (outcomeServed t r) (now (store .exit)) words bytes)) ⌝ }
 {
     if !sight.sound {
         return refusal(Refusal::Unsound);

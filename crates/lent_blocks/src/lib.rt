@@ -3,43 +3,104 @@
 use countdown::count_down;
 use model::Block;
 use model::Domain;
-use survey::Pass;
+use survey::Candidates;
 use survey::Subject;
-use survey::holder_place;
-use survey::passed;
+use survey::chain_before;
+use survey::choose;
+use survey::holder_index;
+use survey::no_candidates;
+use survey::not_sound;
+use survey::put_listed;
+use survey::same_serial;
+use survey::scan_block;
 use tables::Change;
 use tables::clear_block;
 ghost use Prim.Native.Nat.{_≤_};
 ghost use mathlib.Core.List.{map};
 ghost use mathlib.Core.Path.{_≡_};
-ghost use lib.ListN.{getD, length, set};
+ghost use lib.ListN.{getD, length, set, take};
 ghost use Rattle.rules.specs.Domains.{freedIfHeld};
 ghost use Rattle.rules.specs.Drive.{clearBlock};
 ghost use Rattle.tables.specs.Changing.{changedBlocks};
 ghost use Rattle.survey.specs.Marks.{markCount};
-ghost use Rattle.survey.specs.Pass.{Walked, passing};
+ghost use Rattle.survey.specs.Free.{Chosen, noCandidates};
+ghost use Rattle.survey.specs.Listing.{listedFrom};
+ghost use Rattle.survey.specs.Scan.{Walked, chainPasses};
 
-// The pass over the blocks, from the first to the last.
-pub fn pass_over(
+// Has no block of a chain, from one on that is counted from 1, the serial of this one? 257 is no chain. Each block leads to one before it.
+fn chain_passes(blocks: &[Block], marks: &[u16], last: usize, block: Block) -> bool
+    requires { ⌜ (length (now blocks) ≤ 256) × (length (now marks) ≡ markCount) ⌝ }
+    ensures { λ r. ⌜ r ≡ chainPasses (now (blocks .entry)) (now (marks .entry)) block last ⌝ }
+{
+    if not_sound(last) {
+        return false;
+    }
+    let mut at = last;
+    while 0 < at {
+        if blocks.len() < at {
+            return false;
+        }
+        let other = blocks[at - 1];
+        if same_serial(block, other) {
+            return false;
+        }
+        at = chain_before(marks, at);
+    }
+    true
+}
+
+// Are the blocks sound, as far as blocks alone can tell? Each is counted in the marks.
+pub fn scan_blocks(
     blocks: &[Block],
     domains: &[Domain],
     subject: Subject,
-    begun: Pass,
-    marks: &mut [u32],
-) -> Pass
+    marks: &mut [u16],
+) -> bool
     requires { ⌜ (length (now blocks) ≤ 256) × (length (now domains) ≡ 16) × (length (now marks) ≡ markCount) ⌝ }
-    ensures { λ r. ⌜ Walked subject (now (domains .entry)) 0 (now (blocks .entry)) (passing begun (now (marks .entry))) (passing r (now (marks .exit))) ⌝ }
+    ensures { λ r. ⌜ Walked subject (now (domains .entry)) (now (blocks .entry)) 0 (now (blocks .entry)) r (now (marks .entry)) (now (marks .exit)) ⌝ }
 {
-    let mut pass = begun;
     let mut n = 0;
     while n < blocks.len() {
         let block = blocks[n];
-        let at = holder_place(block);
+        let at = holder_index(block);
         let holder = domains[at];
-        pass = passed(pass, subject, n, block, holder, marks);
+        let last = scan_block(subject, n, block, holder, marks);
+        if 0 < last {
+            if !chain_passes(blocks, marks, last, block) {
+                return false;
+            }
+        }
         n += 1;
     }
-    pass
+    true
+}
+
+// The Free blocks to be opened next, among so many.
+pub fn choose_free(blocks: &[Block], most: usize) -> Candidates
+    requires { ⌜ (most ≤ length (now blocks)) × (length (now blocks) ≤ 256) ⌝ }
+    ensures { λ r. ⌜ Chosen 0 (take most (now (blocks .entry))) noCandidates r ⌝ }
+{
+    let mut best = no_candidates();
+    let mut n = 0;
+    while n < most {
+        let block = blocks[n];
+        best = choose(best, n as u64, block);
+        n += 1;
+    }
+    best
+}
+
+// What a list tells of each of so many blocks, in the marks.
+pub fn gather_list(blocks: &[Block], most: usize, subject: Subject, marks: &mut [u16])
+    requires { ⌜ (most ≤ length (now blocks)) × (length (now blocks) ≤ 256) × (length (now marks) ≡ markCount) ⌝ }
+    ensures { λ _. ⌜ now (marks .exit) ≡ listedFrom subject 0 (take most (now (blocks .entry))) (now (marks .entry)) ⌝ }
+{
+    let mut n = 0;
+    while n < most {
+        let block = blocks[n];
+        put_listed(subject, n, block, marks);
+        n += 1;
+    }
 }
 
 // A block's record; a number past the last has a clear one.

@@ -11,7 +11,7 @@ ghost use Rattle.survey.specs.Marks.{markCount};
 ghost use Rattle.survey.specs.Sight.{DomainsPassed};
 
 // The pass over the domains, from the first to the last, with the blocks that the marks have counted for each.
-pub fn pass_domains(domains: &[Domain], blocks: u64, marks: &[u32]) -> Covering
+pub fn pass_domains(domains: &[Domain], blocks: u64, marks: &[u16]) -> Covering
     requires { ⌜ (length (now domains) ≤ 16) × (length (now marks) ≡ markCount) ⌝ }
     ensures { λ r. ⌜ DomainsPassed (now (domains .entry)) blocks (now (marks .entry)) (length (now (domains .entry))) r ⌝ }
 {

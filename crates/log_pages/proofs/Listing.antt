@@ -1,5 +1,5 @@
 -- A list that is filled in descriptor by descriptor.
-use Prim.Native.Nat.{ℕ, zero, suc, _+_, _*_, _/_, _%_, _<_, _≤_}
+use Prim.Native.Nat.{ℕ, zero, suc, _+_, _-_, _<_, _≤_}
 use mathlib.Core.Bool.{true, cond}
 use mathlib.Core.List.{List, [], _∷_, _++_, append-assoc, append-nil}
 use mathlib.Core.Path.{_≡_, refl, sym, ap, _∙_}
@@ -12,7 +12,7 @@ use borrow.Author.Tests.{eq-eqb, ne-eqb}
 use Rattle.geometry.proofs.Laws.Shape.{both, by-test}
 use Rattle.geometry.specs.Bytes.{littleEndian}
 use Rattle.log_pages.proofs.Filling.{Filled}
-use Rattle.log_pages.specs.LogPages.{codeAt, markedBytes, markedTo}
+use Rattle.log_pages.specs.LogPages.{markedBytes, markedTo}
 use Rattle.model.specs.declared.block.Block.{Block}
 use Rattle.model.specs.declared.block.State.{State}
 use Rattle.model.specs.declared.block.State.the-variants as state
@@ -29,7 +29,7 @@ use Rattle.rules.specs.Counting.{numbersTo}
 use Rattle.rules.specs.Drive.{blockAt, heldBy, isClosed, isOpen, isOpenState, openOf, overwritten, size}
 use Rattle.rules.specs.Effects.{Fills}
 use Rattle.rules.specs.LogPages.{closedList, descriptor, descriptorOf, endMark, listLength, listOf, stateByte, wearIndex}
-use Rattle.survey.specs.Pass.{isListed, listMark}
+use Rattle.survey.specs.Listing.{byteTold, indexTold, isListed, listMark}
 use Rattle.survey.specs.Sight.{SeesList}
 use Rattle.survey.specs.declared.sight.Sight.{Sight}
 
@@ -52,7 +52,7 @@ marked-le marks n zero l = let e : n ≡ 0 = omega arith in rw e (omega arith)
 marked-le marks n (suc m) l =
     by-eq n (suc m)
     (λ e. rw e (omega arith))
-    (λ e. omega (arith, marked-le marks n m (omega arith), length-append (markedTo marks m) (cond (eqb (codeAt marks m) 0) [] (descriptorOf m (codeAt marks m / 16) (codeAt marks m % 16)))))
+    (λ e. omega (arith, marked-le marks n m (omega arith), length-append (markedTo marks m) (cond (eqb (byteTold marks m) 0) [] (descriptorOf m (indexTold marks m) (byteTold marks m - 1)))))
 
 -- Of so many blocks, the descriptors of those below n stand at the front, and the next comes behind them.
 pub record Begun (marks : List ℕ) (blocks n at : ℕ) (first bytes : List ℕ) : Type 0 where
@@ -73,29 +73,29 @@ behind {k} {row} {first} new f e =
 -- A block that is listed brings one descriptor, ..
 pub listed-more : {marks : List ℕ} {blocks n at : ℕ} {first bytes last : List ℕ} → Begun marks blocks n at first bytes
     → n + 1 ≤ blocks
-    → ¬ (codeAt marks n ≡ 0)
-    → last ≡ overwritten at (descriptorOf n (codeAt marks n / 16) (codeAt marks n % 16)) bytes
+    → ¬ (byteTold marks n ≡ 0)
+    → last ≡ overwritten at (descriptorOf n (indexTold marks n) (byteTold marks n - 1)) bytes
     → Begun marks blocks (n + 1) (at + 8) first last
 unfolding markedTo
 listed-more {marks} {blocks} {n} {at} {first} b l p e =
-    let code = codeAt marks n in
+    let byte = byteTold marks n in
     record {
       filled = record {
-        are = behind (descriptorOf n (code / 16) (code % 16)) (b .filled) e ∙ rw (add-one, ne-eqb code 0 p);
-        long = rw (add-one, ne-eqb code 0 p, length-append, b .filled .long, fields-length);
+        are = behind (descriptorOf n (indexTold marks n) (byte - 1)) (b .filled) e ∙ rw (add-one, ne-eqb byte 0 p);
+        long = rw (add-one, ne-eqb byte 0 p, length-append, b .filled .long, fields-length);
       };
       below = l;
     }
 
 -- .. and one that is not brings none.
 pub none-more : {marks : List ℕ} {blocks n at : ℕ} {first bytes : List ℕ} → Begun marks blocks n at first bytes → n + 1 ≤ blocks
-    → codeAt marks n ≡ 0
+    → byteTold marks n ≡ 0
     → Begun marks blocks (n + 1) at first bytes
 unfolding markedTo
 none-more {marks} {blocks} {n} {at} {first} b l p = record {
   filled = record {
-    are = rw (add-one, eq-eqb (codeAt marks n) 0 p, append-nil) (b .filled .are);
-    long = rw (add-one, eq-eqb (codeAt marks n) 0 p, append-nil) (b .filled .long);
+    are = rw (add-one, eq-eqb (byteTold marks n) 0 p, append-nil) (b .filled .are);
+    long = rw (add-one, eq-eqb (byteTold marks n) 0 p, append-nil) (b .filled .long);
   };
   below = l;
 }
@@ -179,21 +179,6 @@ one-more t mark (m ∷ ns) n =
     ∙ sym (append-assoc (descriptor (t .config) mark m (blockAt t m)) (descriptors t mark ns)
     (descriptor (t .config) mark n (blockAt t n)))
 
--- The mark of a block that is listed is no 0 and fits below the P/E index.
-record Marked (mark : ℕ) : Type 0 where
-  least : 1 ≤ mark
-  most : mark < 16
-
-marked : (which : Listed) (d : ℕ) (b : Block) → isListed which d b ≡ true → Marked (listMark which b)
-marked Open d b e = go (b .state) (both (heldBy d b) (isOpen b) e .1)
-  where
-    go : (s : State) → isOpenState s ≡ true → Marked (stateByte s)
-    go state.Free h = clash true refl (sym h)
-    go (state.Open Erase) h = record { least = omega arith; most = omega arith }
-    go (state.Open (Placement p)) h = record { least = omega arith; most = omega arith }
-    go (state.Closed way) h = clash true refl (sym h)
-marked Closed d b e = rw (both (heldBy d b) (isClosed b) e .1) (record { least = omega arith; most = omega arith })
-
 -- So the descriptors are those that the marks tell, ..
 marked-to : (t : Table) (d : ℕ) (which : Listed) (x : Sight) (marks : List ℕ) → SeesList t d which x marks → x .sound ≡ true
     → (n : ℕ)
@@ -204,20 +189,17 @@ marked-to t d which x marks s e zero l = refl
 marked-to t d which x marks s e (suc n) l =
     let before = marked-to t d which x marks s e n (omega arith) in
     let b = blockAt t n in
-    let code = codeAt marks n in
-    let wear = wearIndex (t .config .rated) (b .erases) in
-    let told = s .codes e n (omega arith) in
+    let byte = s .bytes e n (omega arith) in
     by-test (isListed which d b)
     (λ p.
-    let m = marked which d b p in
-    let sum : code ≡ listMark which b + 16 * wear = told ∙ rw p in
-    let index : code / 16 ≡ wear = omega (arith, sum, m .most) in
-    let byte : code % 16 ≡ listMark which b = omega (arith, sum, m .most) in
-    let some : ¬ (code ≡ 0) = λ none. omega (arith, sum, none, m .least) in
-    rw (p, one-more, ne-eqb code 0 some, index, byte, before))
+    let index = s .indexes e n (omega arith) p in
+    let one : byteTold marks n ≡ listMark which b + 1 = byte ∙ rw p in
+    let back : byteTold marks n - 1 ≡ listMark which b = omega (arith, one) in
+    let some : ¬ (byteTold marks n ≡ 0) = λ none. omega (arith, one, none) in
+    rw (p, one-more, ne-eqb (byteTold marks n) 0 some, index, back, before))
     (λ p.
-    let none : code ≡ 0 = told ∙ rw p in
-    rw (p, eq-eqb code 0 none, append-nil (markedTo marks n), append-nil (listedTo t d which n)) before)
+    let none : byteTold marks n ≡ 0 = byte ∙ rw p in
+    rw (p, eq-eqb (byteTold marks n) 0 none, append-nil (markedTo marks n), append-nil (listedTo t d which n)) before)
 
 -- .. and the bytes are the list's.
 pub marked-listed : (t : Table) (d : ℕ) (which : Listed) (x : Sight) (marks : List ℕ) → SeesList t d which x marks → x .sound ≡ true

@@ -1,5 +1,5 @@
 -- What Page and List ask of what is seen of a table, and a list as it is made from the marks.
-use Prim.Native.Nat.{ℕ, zero, suc, _+_, _-_, _*_, _/_, _%_}
+use Prim.Native.Nat.{ℕ, zero, suc, _+_, _-_, _*_}
 use mathlib.Core.Bool.{cond}
 use mathlib.Core.List.{List, [], _∷_, _++_}
 use lib.Dec.{eqb, leb}
@@ -9,7 +9,7 @@ use Rattle.model.specs.declared.command.Listed.{Listed}
 use Rattle.model.specs.declared.command.Listed.the-variants.{Closed, Open}
 use Rattle.rules.specs.Drive.{heldBy}
 use Rattle.rules.specs.LogPages.{descriptorOf, endMark}
-use Rattle.survey.specs.Marks.{mark}
+use Rattle.survey.specs.Listing.{byteTold, indexTold}
 use Rattle.survey.specs.declared.sight.Sight.{Sight}
 
 -- What Page is asked, with room for so many bytes.
@@ -27,15 +27,11 @@ abbrev pub lengthSeen : Sight → Listed → ℕ
 lengthSeen x Open = 8 * (x .opened + 1)
 lengthSeen x Closed = 8 * (x .held - x .opened + 1)
 
--- What the marks tell of block n for a list: 0, or its mark and 16 times its P/E index.
-abbrev pub codeAt : List ℕ → ℕ → ℕ
-codeAt marks n = mark marks (544 + n) / 131072
-
--- The descriptors of the blocks below n that are listed, ascending, ..
+-- The descriptors of the blocks below n that the marks list, ascending, ..
 unfoldable pub markedTo : List ℕ → ℕ → List ℕ
 markedTo marks zero = []
 markedTo marks (suc n) =
-    let code = codeAt marks n in markedTo marks n ++ cond (eqb code 0) [] (descriptorOf n (code / 16) (code % 16))
+    markedTo marks n ++ cond (eqb (byteTold marks n) 0) [] (descriptorOf n (indexTold marks n) (byteTold marks n - 1))
 
 -- .. and the end mark.
 abbrev pub markedBytes : List ℕ → ℕ → List ℕ

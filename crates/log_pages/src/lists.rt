@@ -4,7 +4,9 @@ use model::Answer;
 use model::Listed;
 use model::Refusal;
 use survey::Sight;
+use survey::byte_told;
 use survey::domain_verdict;
+use survey::index_told;
 use tables::Verdict;
 ghost use mathlib.Core.List.{List};
 ghost use mathlib.Core.Path.{_≡_};
@@ -19,11 +21,6 @@ ghost use Rattle.survey.specs.Marks.{markCount};
 ghost use Rattle.survey.specs.Sight.{Sees, SeesList};
 ghost use Rattle.tables.specs.Serving.{ServesCommand, answering, served};
 
-// Of the survey's marks: where those of the blocks begin, and what a descriptor is multiplied by in its block's mark.
-const LINKS: usize = 544;
-
-const DESCRIPTOR: u32 = 131072;
-
 // A descriptor, or the end mark.
 fn put_descriptor(bytes: &mut [u8], at: usize, number: u64, index: u64, mark: u64)
     requires { ⌜ at + 8 ≤ length (now bytes) ⌝ }
@@ -36,16 +33,16 @@ fn put_descriptor(bytes: &mut [u8], at: usize, number: u64, index: u64, mark: u6
 }
 
 // A descriptor for each block that the marks list, in ascending number, and the end mark.
-fn put_list(bytes: &mut [u8], marks: &[u32], blocks: usize)
+fn put_list(bytes: &mut [u8], marks: &[u16], blocks: usize)
     requires { ⌜ (blocks ≤ 256) × (length (now marks) ≡ markCount) ⌝ }
     requires { ⌜ length (markedBytes (now marks) blocks) ≤ length (now bytes) ⌝ }
     ensures { λ _. ⌜ now (bytes .exit) ≡ overwritten 0 (markedBytes (now (marks .entry)) blocks) (now (bytes .entry)) ⌝ }
 {
     let mut at: usize = 0;
     for n in 0..blocks {
-        let code = marks[LINKS + n] / DESCRIPTOR;
-        if code != 0 {
-            put_descriptor(bytes, at, n as u64, (code / 16) as u64, (code % 16) as u64);
+        let byte = byte_told(marks, n);
+        if byte != 0 {
+            put_descriptor(bytes, at, n as u64, index_told(marks, n), byte - 1);
             at += 8;
         }
     }
@@ -66,7 +63,7 @@ fn list_length(sight: Sight, listed: Listed) -> u64
 
 // The domain's open or Closed blocks, a descriptor each, and the end mark. Both stand in ascending
 // number.
-pub fn list(sight: Sight, domain: u64, listed: Listed, marks: &[u32], bytes: &mut [u8]) -> Answer
+pub fn list(sight: Sight, domain: u64, listed: Listed, marks: &[u16], bytes: &mut [u8]) -> Answer
     requires { ⌜ ((t : Table) × Sees t domain sight × SeesList t domain listed sight (now marks)) ⌝ }
     requires { ⌜ length (now marks) ≡ markCount ⌝ }
     ensures { λ r. ⌜ ((t : Table) (store words : List ℕ) → Sees t domain sight → SeesList t domain listed sight (now (marks .entry)) → ServesCommand t (Listing domain listed) store words (now (bytes .entry)) (served (answering t r) store words (now (bytes .exit)))) ⌝ }

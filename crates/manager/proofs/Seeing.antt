@@ -3,11 +3,12 @@ use Prim.Native.Nat.{ℕ, _<_}
 use mathlib.Core.Bool.{Bool, true, false, cond}
 use mathlib.Core.List.{List}
 use mathlib.Core.Path.{_≡_, refl, sym, ap, subst, _∙_}
+use lib.Dec.{eqb}
 use lib.ListN.{length}
 use Rattle.geometry.specs.Address.{fieldsOf}
 use Rattle.geometry.specs.Shape.{withinLimits}
 use Rattle.geometry.specs.declared.shape.Config.{Config}
-use Rattle.manager.specs.Answering.{Viewed}
+use Rattle.manager.specs.Answering.{ReadOf, Viewed}
 use Rattle.manager.specs.Subjects.{subjectOf, subjectWith}
 use Rattle.model.specs.declared.answer.Answer.{Answer}
 use Rattle.model.specs.declared.command.Command.{Command}
@@ -16,12 +17,14 @@ use Rattle.model.specs.declared.command.Command.the-variants.{WriteByBlock, Wri
 use Rattle.model.specs.declared.command.Listed.{Listed}
 use Rattle.model.specs.declared.command.Listed.the-variants as listed
 use Rattle.model.specs.declared.table.Table.{Table}
+use Rattle.rules.specs.Blocks.{anyBlock}
 use Rattle.rules.specs.Drive.{blockAt, size}
+use Rattle.survey.proofs.Listings.{sees-list}
 use Rattle.survey.proofs.Outcomes.{left-as-is}
 use Rattle.survey.proofs.Seeing.{sound-limits}
 use Rattle.survey.specs.Marks.{markCount}
-use Rattle.survey.specs.Sight.{Sees, SeesBlock, SeesChoice, SeesList, SeesPlacement, Sighted, SubjectOf, Views}
-use Rattle.survey.specs.declared.pass.Subject.{Subject}
+use Rattle.survey.specs.Sight.{ListGathered, Sees, SeesBlock, SeesChoice, SeesList, SeesPlacement, Sighted, SubjectOf, Views}
+use Rattle.survey.specs.declared.scan.Subject.{Subject}
 use Rattle.survey.specs.declared.sight.Sight.{Sight}
 use Rattle.survey.specs.declared.sight.View.{View}
 use Rattle.tables.specs.Changing.{leaving, outcomeServed}
@@ -41,7 +44,7 @@ unfolding subjectOf
 right-subject t (Create d guarantee quota placements limit) = with-config t d false 0 false false listed.Open
 right-subject t (ChangeCapacity d guarantee quota) = with-config t d false 0 false false listed.Open
 right-subject t (Delete d) = with-config t d false 0 false false listed.Open
-right-subject t (Erase d n) = with-config t d false n true false listed.Open
+right-subject t (Erase d n) = with-config t d false n (eqb n anyBlock) false listed.Open
 right-subject t (Close d n) = with-config t d false n false false listed.Open
 right-subject t (Free d n) = with-config t d false n false false listed.Open
 right-subject t (WriteByPlacement d p start count) = with-config t d true p true false listed.Open
@@ -64,16 +67,24 @@ pub record Sights (t : Table) (s : Subject) (marks : List ℕ) (r : Sight) : Typ
 
 -- Of every table that is viewed so.
 abbrev pub Sighting : View → Command → List ℕ → Sight → Type 0
-Sighting v k marks r = (t : Table) → Views t v marks → Sights t (subjectOf (t .config) k) marks r
+Sighting v k marks r = (t : Table) → ReadOf t v marks → Sights t (subjectOf (t .config) k) marks r
 
 pub sighting : (v : View) (command k : Command) (marks : List ℕ) (r : Sight) → Viewed v command marks → command ≡ k
-    → ((t : Table) → Views t v marks → Sighted t (v .subject) marks r) → Sighting v k marks r
+    → ((t : Table) → Views t v → Sighted t (v .subject) r) → Sighting v k marks r
 unfolding Viewed
 sighting v command k marks r is told made t p =
-    let same : v .subject ≡ subjectOf (t .config) k = is .0 ∙ ap (λ (z : Config). subjectOf z command) (p .same-config) ∙ ap (subjectOf (t .config)) told in
-    let q = subst (λ (z : Subject). Sighted t z marks r) same (made t p) in
+    let same : v .subject ≡ subjectOf (t .config) k = is .0 ∙ ap (λ (z : Config). subjectOf z command) (p .views .same-config) ∙ ap (subjectOf (t .config)) told in
+    let q = subst (λ (z : Subject). Sighted t z r) same (made t (p .views)) in
+    let list : subjectOf (t .config) k .listing ≡ true → ListGathered t (subjectOf (t .config) k) marks =
+    subst (λ (z : Subject). z .listing ≡ true → ListGathered t z marks) same (p .listed) in
     let a = right-subject t k in
-    record { sees = q .sees a; names = q .names a; places = q .places a; chooses = q .chooses a; lists = q .lists a }
+    record {
+      sees = q .sees a;
+      names = q .names a;
+      places = q .places a;
+      chooses = q .chooses a;
+      lists = λ e. sees-list t (subjectOf (t .config) k) r marks a (q .sees a) (p .views .scanned .records) (list e);
+    }
 
 -- There is such a table.
 pub seen : (v : View) (command k : Command) (marks : List ℕ) (r : Sight) → Viewed v command marks → Sighting v k marks r
@@ -83,7 +94,7 @@ seen v command k marks r is g = let t = is .1 .0 in (t, g t (is .1 .1))
 
 pub marks-long : (v : View) (command : Command) (marks : List ℕ) → Viewed v command marks → length marks ≡ markCount
 unfolding Viewed
-marks-long v command marks is = is .1 .1 .passed .entries
+marks-long v command marks is = is .1 .1 .entries
 
 -- A Read names the block of its address, which is in the limits of a sound table.
 pub sees-read : (t : Table) (d address : ℕ) (r : Sight) → Sees t d r → SeesBlock t (cond (withinLimits (t .config)) (fieldsOf (t .config) address .block) 0) r

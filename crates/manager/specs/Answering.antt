@@ -1,27 +1,35 @@
 -- What a command's answer is made of: what was read of the table, and what is changed by it.
 use Prim.Native.Nat.{ℕ, _-_}
-use mathlib.Core.Bool.{cond}
+use mathlib.Core.Bool.{true, cond}
 use mathlib.Core.List.{List}
 use mathlib.Core.Path.{_≡_}
 use lib.Dec.{eqb}
+use lib.ListN.{length}
 use Rattle.manager.specs.Subjects.{subjectOf}
 use Rattle.model.specs.declared.command.Command.{Command}
 use Rattle.model.specs.declared.table.Table.{Table}
-use Rattle.survey.specs.Sight.{Views}
+use Rattle.survey.specs.Marks.{markCount}
+use Rattle.survey.specs.Sight.{ListGathered, Views}
 use Rattle.survey.specs.declared.sight.View.{View}
 use Rattle.tables.specs.Changing.{outcomeServed}
 use Rattle.tables.specs.Serving.{ServesCommand, served}
 use Rattle.tables.specs.declared.change.Change.{Change}
 use Rattle.tables.specs.declared.change.Outcome.{Outcome}
 
+-- What was read of a table, with what the marks tell if the command lists blocks.
+pub record ReadOf (t : Table) (v : View) (marks : List ℕ) : Type 0 where
+  pub views : Views t v
+  pub entries : length marks ≡ markCount
+  pub listed : v .subject .listing ≡ true → ListGathered t (v .subject) marks
+
 -- Some table is viewed so for the command.
 unfoldable pub Viewed : View → Command → List ℕ → Type 0
-Viewed v command marks = (v .subject ≡ subjectOf (v .config) command) × ((t : Table) × Views t v marks)
+Viewed v command marks = (v .subject ≡ subjectOf (v .config) command) × ((t : Table) × ReadOf t v marks)
 
 -- Whatever table it was, the command is served in it.
 unfoldable pub Answered : View → Command → List ℕ → List ℕ → List ℕ → List ℕ → Outcome → List ℕ → List ℕ → List ℕ → Type 0
 Answered v command marks store words bytes r store′ words′ bytes′ =
-    (t : Table) → Views t v marks → ServesCommand t command store words bytes (served (outcomeServed t r) store′ words′ bytes′)
+    (t : Table) → ReadOf t v marks → ServesCommand t command store words bytes (served (outcomeServed t r) store′ words′ bytes′)
 
 -- Where a change's domain has its record; 16 is no domain's place.
 abbrev pub changedPlace : Change → ℕ

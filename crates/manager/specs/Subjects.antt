@@ -1,6 +1,7 @@
 -- What each command is about.
 use Prim.Native.Nat.{ℕ}
 use mathlib.Core.Bool.{Bool, true, false, cond}
+use lib.Dec.{eqb}
 use Rattle.geometry.specs.Address.{fieldsOf}
 use Rattle.geometry.specs.Shape.{adusPerBlock, withinLimits}
 use Rattle.geometry.specs.declared.shape.Config.{Config}
@@ -10,8 +11,9 @@ use Rattle.model.specs.declared.command.Command.the-variants.{ChangeCapacity, C
 use Rattle.model.specs.declared.command.Command.the-variants.{WriteByBlock, WriteByPlacement}
 use Rattle.model.specs.declared.command.Listed.{Listed}
 use Rattle.model.specs.declared.command.Listed.the-variants as listed
-use Rattle.survey.specs.Sight.{begunPass}
-use Rattle.survey.specs.declared.pass.Subject.{Subject}
+use Rattle.rules.specs.Blocks.{anyBlock}
+use Rattle.survey.specs.declared.scan.Ranges.{Ranges}
+use Rattle.survey.specs.declared.scan.Subject.{Subject}
 use Rattle.tables.specs.Changing.{presentBlocks}
 
 abbrev pub subjectWith : Config → ℕ → Bool → ℕ → Bool → Bool → Listed → Subject
@@ -44,7 +46,7 @@ unfoldable pub subjectOf : Config → Command → Subject
 subjectOf c (Create d guarantee quota placements limit) = plain c d
 subjectOf c (ChangeCapacity d guarantee quota) = plain c d
 subjectOf c (Delete d) = plain c d
-subjectOf c (Erase d n) = named c d n true
+subjectOf c (Erase d n) = named c d n (eqb n anyBlock)
 subjectOf c (Close d n) = named c d n false
 subjectOf c (Free d n) = named c d n false
 subjectOf c (WriteByPlacement d p start count) = placed c d p
@@ -54,6 +56,14 @@ subjectOf c (Page d n) = named c d n false
 subjectOf c (Listing d which) = listing c d which
 subjectOf c (Pulse seconds) = plain c 0
 
--- What the pass over the blocks begins with.
+-- How many of so many blocks are looked through for it.
+abbrev pub rangesOf : Subject → ℕ → Ranges
+rangesOf s blocks = record { free = cond (s .choosing) blocks 0; list = cond (s .listing) blocks 0 }
+
+-- What a command begins with.
 abbrev pub beginningOf : Config → Command → Beginning
-beginningOf c command = record { blocks = presentBlocks c; subject = subjectOf c command; pass = begunPass }
+beginningOf c command = record {
+  blocks = presentBlocks c;
+  subject = subjectOf c command;
+  ranges = rangesOf (subjectOf c command) (presentBlocks c);
+}

@@ -23,7 +23,7 @@ ghost use Rattle.manager.specs.Answering.{Answered, Viewed, changedPlace
 // The command's answer and what it changes, from what was read of the table. The store, the words and the bytes are then as after it.
 pub(crate) fn answered(
     view: View,
-    marks: &[u32],
+    marks: &[u16],
     command: Command,
     store: &mut [u64],
     words: &mut [u64],
@@ -32,7 +32,7 @@ pub(crate) fn answered(
     requires { ⌜ Viewed view command (now marks) ⌝ }
     ensures { λ r. ⌜ Answered view command (now (marks .entry)) (now (store .entry)) (now (words .entry)) (now (bytes .entry)) r (now (store .exit)) (now (words .exit)) (now (bytes .exit)) ⌝ }
 {
-    let sight = sighted(view, marks);
+    let sight = sighted(view);
     match command {
         Command::Create {
             domain,

@@ -1,45 +1,52 @@
 // What is read of a table for a command.
 use geometry::Config;
 use lent_blocks::block_at;
-use lent_blocks::pass_over;
+use lent_blocks::choose_free;
+use lent_blocks::gather_list;
+use lent_blocks::scan_blocks;
 use lent_domains::domain_at;
 use lent_domains::pass_domains;
 use model::Block;
 use model::Domain;
-use survey::Pass;
+use survey::Ranges;
 use survey::Subject;
 use survey::View;
-use survey::about;
 use survey::place;
+use survey::tally_of;
 ghost use Prim.Native.Nat.{_≤_};
 ghost use mathlib.Core.Path.{_≡_};
 ghost use lib.ListN.{length};
 ghost use Rattle.manager.specs.Looking.{Looked};
 ghost use Rattle.survey.specs.Marks.{markCount};
 
-// One pass over the blocks and one over the domains; then the records of the domain and of the block that the command is about.
+// The scan of the blocks and that of the domains, and what they counted; the records of the domain and of the block that the command is
+// about; the Free blocks to be opened next and the list, if they are asked for.
 pub(crate) fn looked(
     blocks: &[Block],
     domains: &[Domain],
     config: Config,
     subject: Subject,
-    begun: Pass,
-    marks: &mut [u32],
+    ranges: Ranges,
+    marks: &mut [u16],
 ) -> View
-    requires { ⌜ (length (now blocks) ≤ 256) × (length (now domains) ≡ 16) × (length (now marks) ≡ markCount) ⌝ }
-    ensures { λ r. ⌜ Looked config subject begun (now (blocks .entry)) (now (domains .entry)) (now (marks .entry)) r (now (marks .exit)) ⌝ }
+    requires { ⌜ (length (now blocks) ≤ 256) × (length (now domains) ≡ 16) × (length (now marks) ≡ markCount) × (ranges .free ≤ length (now blocks)) × (ranges .list ≤ length (now blocks)) ⌝ }
+    ensures { λ r. ⌜ Looked config subject ranges (now (blocks .entry)) (now (domains .entry)) (now (marks .entry)) r (now (marks .exit)) ⌝ }
 {
-    let pass = pass_over(blocks, domains, subject, begun, marks);
+    let sound = scan_blocks(blocks, domains, subject, marks);
     let covering = pass_domains(domains, config.blocks, marks);
-    let number = about(subject, pass);
-    let block = block_at(blocks, number);
+    let tally = tally_of(subject, marks);
+    let block = block_at(blocks, tally.number);
     let at = place(subject);
     let domain = domain_at(domains, at);
+    let free = choose_free(blocks, ranges.free);
+    gather_list(blocks, ranges.list, subject, marks);
     View {
         config,
         subject,
-        pass,
+        sound,
         covering,
+        tally,
+        free,
         domain,
         block,
     }

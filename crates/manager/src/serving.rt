@@ -27,14 +27,14 @@ pub fn serve_in(
     let begin = begun(config, command);
     let blocks = begin.blocks;
     let subject = begin.subject;
-    let first = begin.pass;
+    let ranges = begin.ranges;
     let mut marks = no_marks();
     let view = looked(
         &table.blocks[..blocks],
         &table.domains,
         config,
         subject,
-        first,
+        ranges,
         &mut marks,
     );
     let outcome = answered(view, &marks, command, store, words, bytes);

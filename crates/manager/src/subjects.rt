@@ -1,18 +1,19 @@
-// What each command is about, which the pass over the blocks looks for.
+// What each command is about.
 use geometry::Config;
 use geometry::adus_per_block;
 use geometry::within_limits;
 use geometry::word_fields;
 use model::Command;
 use model::Listed;
-use survey::Candidate;
-use survey::Pass;
+use survey::Ranges;
 use survey::Subject;
 ghost use Prim.Native.Nat.{_≤_};
+ghost use mathlib.Core.Bool.{cond};
 ghost use mathlib.Core.Path.{_≡_};
-ghost use Rattle.manager.specs.Subjects.{beginningOf, listing, named, placed, plain, subjectOf};
-ghost use Rattle.survey.specs.Pass.{candidate};
-ghost use Rattle.survey.specs.Sight.{begunPass};
+ghost use Rattle.manager.specs.Subjects.{beginningOf, listing, named, placed, plain, rangesOf, subjectOf};
+
+// Erase leaves the choice to the manager.
+const ANY_BLOCK: u64 = 0xffff_ffff;
 
 // A domain alone, ..
 fn plain(config: Config, domain: u64) -> Subject
@@ -86,7 +87,7 @@ pub(crate) fn subject_of(config: Config, command: Command) -> Subject
             quota: _,
         } => plain(config, domain),
         Command::Delete { domain } => plain(config, domain),
-        Command::Erase { domain, block } => named(config, domain, block, true),
+        Command::Erase { domain, block } => named(config, domain, block, block == ANY_BLOCK),
         Command::Close { domain, block } => named(config, domain, block, false),
         Command::Free { domain, block } => named(config, domain, block, false),
         Command::WriteByPlacement {
@@ -113,31 +114,27 @@ pub(crate) fn subject_of(config: Config, command: Command) -> Subject
     }
 }
 
-// What the pass over the blocks begins with: how many blocks the drive has, none outside the limits; what
-// the command is about; and what was found before the first block.
+// What a command begins with: how many blocks the drive has, none outside the limits; what the command is about; and how many blocks
+// are looked through for it.
 pub(crate) struct Beginning {
     pub blocks: usize,
     pub subject: Subject,
-    pub pass: Pass,
+    pub ranges: Ranges,
 }
 
-fn no_candidate() -> Candidate
-    ensures { λ r. ⌜ r ≡ candidate 256 4294967296 ⌝ }
+// So many, or none.
+fn if_wanted(wanted: bool, blocks: usize) -> usize
+    ensures { λ r. ⌜ r ≡ cond wanted blocks 0 ⌝ }
 {
-    Candidate {
-        number: 256,
-        erases: 4294967296,
-    }
+    if wanted { blocks } else { 0 }
 }
 
-fn begun_pass() -> Pass
-    ensures { λ r. ⌜ r ≡ begunPass ⌝ }
+fn ranges_of(subject: Subject, blocks: usize) -> Ranges
+    ensures { λ r. ⌜ r ≡ rangesOf subject blocks ⌝ }
 {
-    Pass {
-        sound: 1,
-        found: 256,
-        first: no_candidate(),
-        second: no_candidate(),
+    Ranges {
+        free: if_wanted(subject.choosing, blocks),
+        list: if_wanted(subject.listing, blocks),
     }
 }
 
@@ -148,9 +145,10 @@ pub(crate) fn begun(config: Config, command: Command) -> Beginning
     if within_limits(config) {
         blocks = config.blocks as usize;
     }
+    let subject = subject_of(config, command);
     Beginning {
         blocks,
-        subject: subject_of(config, command),
-        pass: begun_pass(),
+        subject,
+        ranges: ranges_of(subject, blocks),
     }
 }

@@ -1,22 +1,23 @@
 -- That the blocks of a chain are all that have to be compared: a block's serial is new if none of its key's chain has it.
-use Prim.Native.Nat.{ℕ, zero, suc, _+_, _-_, _/_, _%_, _<_, _≤_}
+use Prim.Native.Nat.{ℕ, zero, suc, _+_, _-_, _<_, _≤_}
 use mathlib.Core.Bool.{Bool, true, false, not, _&&_, and-comm, and-true, cond}
 use mathlib.Core.List.{List}
 use mathlib.Core.Path.{_≡_, refl, sym, ap, _∙_}
 use native.Mathlib.Numerals.{add-one}
 use native.Mathlib.Omega.{arith}
-use lib.Dec.{eqb}
-use borrow.Author.Tests.{eq-eqb, eqb-true, lt-ltb}
+use lib.Dec.{eqb, ltb}
+use lib.ListN.{getD, length}
+use borrow.Author.Tests.{eq-eqb, eqb-true, le-ltb, lt-ltb, ne-eqb}
 use Rattle.geometry.proofs.Laws.Shape.{both, by-test}
 use Rattle.model.specs.declared.block.Block.{Block}
 use Rattle.model.specs.declared.table.Table.{Table}
 use Rattle.rules.proofs.Counting.{all-next, all-none, all-same, by-eq}
 use Rattle.rules.specs.Counting.{allTo, implies}
-use Rattle.rules.specs.Drive.{blockAt, isFree}
+use Rattle.rules.specs.Drive.{blockAt, clearBlock, isFree}
 use Rattle.rules.specs.Soundness.{sameHolder, serialsDiffer}
 use Rattle.survey.proofs.Marking.{chain-ends, chain-next}
 use Rattle.survey.specs.Clauses.{keyOf, lastTo, sameKey, serialKey, serialNew}
-use Rattle.survey.specs.Marks.{chainBefore, chainDiffers, mark, sameInChain}
+use Rattle.survey.specs.Marks.{chainBefore, chainDiffers, mark, sameSerial}
 
 -- ---- The last number that passes
 
@@ -36,6 +37,18 @@ last-passes p zero m e = absurd (omega (arith, e))
 last-passes p (suc n) m e = by-test (p n)
     (λ q. let h : suc n ≡ suc m = sym (rw q) ∙ e in let k : n ≡ m = omega (arith, h) in rw (← k) q)
     (λ q. last-passes p n m (sym (rw q) ∙ e))
+
+-- None is found where none passes.
+pub last-none : (p : ℕ → Bool) (n : ℕ) → eqb (lastTo p n) 0 ≡ allTo (λ i. not (p i)) n
+unfolding lastTo allTo
+last-none p zero = refl
+last-none p (suc n) = by-test (p n)
+    (λ q. rw (q, ne-eqb (suc n) 0 (λ e. omega (arith, e))) (sym (off (allTo (λ i. not (p i)) n))))
+    (λ q. rw (q, and-true) (last-none p n))
+  where
+    off : (b : Bool) → b && false ≡ false
+    off true = refl
+    off false = refl
 
 -- Of numbers that pass q, only the last and those before it count.
 skipped : (q p : ℕ → Bool) (n : ℕ) → allTo (λ i. implies (q i) (p i)) (lastTo q n) ≡ allTo (λ i. implies (q i) (p i)) n
@@ -102,25 +115,24 @@ chain-goes-on t n j same =
     rw (skipped (sameKey t (serialKey (blockAt t n))) (λ i. serialsDiffer (blockAt t n) (blockAt t i)) j, all-next, same)
     (and-comm (serialsDiffer (blockAt t n) (blockAt t j)) (unseen t n j))
 
--- What the marks have of the blocks below n that are held: the one before in its chain, its holder and its serial.
-pub record Chain (t : Table) (n : ℕ) (marks : List ℕ) : Type 0 where
+-- What the marks have of the blocks below n that are held: the one before in its chain. The records are those of the table.
+pub record Chain (t : Table) (n : ℕ) (bs : List Block) (marks : List ℕ) : Type 0 where
+  pub inside : n < length bs
+  pub records : (j : ℕ) → j < n → getD bs j clearBlock ≡ blockAt t j
   pub before-is : (j : ℕ) → j < n → isFree (blockAt t j) ≡ false
-      → mark marks (544 + j) % 512 ≡ lastTo (sameKey t (serialKey (blockAt t j))) j
-  pub holder-is : (j : ℕ) → j < n → isFree (blockAt t j) ≡ false → mark marks (544 + j) / 512 % 256 ≡ blockAt t j .holder
-  pub serial-is : (j : ℕ) → j < n → isFree (blockAt t j) ≡ false → mark marks (800 + j) ≡ blockAt t j .serial
+      → mark marks (544 + j) ≡ lastTo (sameKey t (serialKey (blockAt t j))) j
 
 -- Two blocks that are held have the same serial where holder and serial are equal.
-held-differ : (b other : Block) → isFree b ≡ false → isFree other ≡ false
-    → serialsDiffer b other ≡ not (eqb (b .holder) (other .holder) && eqb (b .serial) (other .serial))
+held-differ : (b other : Block) → isFree b ≡ false → isFree other ≡ false → serialsDiffer b other ≡ not (sameSerial b other)
 held-differ b other e f = rw (e, f)
 
 -- Following the chain in the marks is comparing what is left of it.
-followed : (t : Table) (n : ℕ) (marks : List ℕ) (most at : ℕ) → Chain t n marks → isFree (blockAt t n) ≡ false → at ≤ most → at ≤ n
+followed : (t : Table) (n : ℕ) (bs : List Block) (marks : List ℕ) (most at : ℕ) → Chain t n bs marks → isFree (blockAt t n) ≡ false → at ≤ most → at ≤ n
     → ((j : ℕ) → at ≡ j + 1 → sameKey t (serialKey (blockAt t n)) j ≡ true)
-    → chainDiffers marks (blockAt t n .holder) (blockAt t n .serial) at ≡ unseen t n at
-followed t n marks zero at c held l w same =
+    → chainDiffers bs marks (blockAt t n) at ≡ unseen t n at
+followed t n bs marks zero at c held l w same =
     let e : at ≡ 0 = omega (arith, l) in rw (e, chain-ends, all-none)
-followed t n marks (suc most) at c held l w same = by-eq at 0
+followed t n bs marks (suc most) at c held l w same = by-eq at 0
     (λ e. rw (e, chain-ends, all-none))
     (λ ne.
     let b = blockAt t n in
@@ -132,23 +144,23 @@ followed t n marks (suc most) at c held l w same = by-eq at 0
     let free = key-not-free (blockAt t j) (keyOf (b .holder) (b .serial)) k open-key in
     let inside : j < n = omega arith in
     let equal : serialKey (blockAt t j) ≡ serialKey b = eqb-true (serialKey (blockAt t j)) (serialKey b) key in
-    let link : mark marks (544 + j) % 512 ≡ lastTo (sameKey t (serialKey b)) j =
+    let link : mark marks (544 + j) ≡ lastTo (sameKey t (serialKey b)) j =
     c .before-is j inside free ∙ ap (λ (x : ℕ). lastTo (sameKey t x) j) equal in
     let most-j = last-most (sameKey t (serialKey b)) j in
     let back : chainBefore marks at ≡ lastTo (sameKey t (serialKey b)) j =
-    rw (lt-ltb (mark marks (544 + j) % 512) at (omega (arith, link, most-j))) link in
-    let differs : not (sameInChain marks (b .holder) (b .serial) at) ≡ serialsDiffer b (blockAt t j) =
-    rw (held-differ b (blockAt t j) held free, c .holder-is j inside free, c .serial-is j inside free) in
-    chain-next marks (b .holder) (b .serial) at (omega arith)
-    ∙ rw (differs, back) (ap (λ (x : Bool). serialsDiffer b (blockAt t j) && x)
-    (followed t n marks most (lastTo (sameKey t (serialKey b)) j) c held (omega (arith, most-j, l)) (omega (arith, most-j))
+    rw (lt-ltb (mark marks (544 + j)) at (omega (arith, link, most-j))) link in
+    let differs : not (sameSerial b (getD bs j clearBlock)) ≡ serialsDiffer b (blockAt t j) =
+    rw (c .records j inside) (sym (held-differ b (blockAt t j) held free)) in
+    chain-next bs marks b at (omega arith)
+    ∙ rw (le-ltb (length bs) at (omega (arith, c .inside)), differs, back) (ap (λ (x : Bool). serialsDiffer b (blockAt t j) && x)
+    (followed t n bs marks most (lastTo (sameKey t (serialKey b)) j) c held (omega (arith, most-j, l)) (omega (arith, most-j))
     (λ i f. last-passes (sameKey t (serialKey b)) j i (f ∙ add-one i))))
     ∙ chain-goes-on t n j key ∙ ap (unseen t n) (sym e))
 
 -- So, from the last block of the key on, it tells whether the serial is new.
-pub chain-tells : (t : Table) (n : ℕ) (marks : List ℕ) → Chain t n marks → isFree (blockAt t n) ≡ false
-    → chainDiffers marks (blockAt t n .holder) (blockAt t n .serial) (lastTo (sameKey t (serialKey (blockAt t n))) n) ≡ serialNew t n
-chain-tells t n marks c held =
+pub chain-tells : (t : Table) (n : ℕ) (bs : List Block) (marks : List ℕ) → Chain t n bs marks → isFree (blockAt t n) ≡ false
+    → chainDiffers bs marks (blockAt t n) (lastTo (sameKey t (serialKey (blockAt t n))) n) ≡ serialNew t n
+chain-tells t n bs marks c held =
     let p = sameKey t (serialKey (blockAt t n)) in
-    followed t n marks (lastTo p n) (lastTo p n) c held (omega arith) (last-most p n) (λ i f. last-passes p n i (f ∙ add-one i))
+    followed t n bs marks (lastTo p n) (lastTo p n) c held (omega arith) (last-most p n) (λ i f. last-passes p n i (f ∙ add-one i))
     ∙ chain-begins t n

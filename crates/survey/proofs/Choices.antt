@@ -1,11 +1,13 @@
 -- The two Free blocks to be opened next: the choice of the rules, and their choice once the first is no longer Free.
 use Prim.Native.Nat.{ℕ, zero, suc, _+_, _<_}
 use mathlib.Core.Bool.{Bool, true, false, true≢false, cond}
+use mathlib.Core.List.{List, [], _∷_}
 use mathlib.Core.Option.{Option, none, some}
 use mathlib.Core.Path.{_≡_, refl, sym, ap, _∙_, subst}
 use native.Mathlib.Numerals.{add-one}
 use native.Mathlib.Omega.{arith}
 use lib.Dec.{ltb}
+use lib.ListN.{getD, length}
 use borrow.Author.Tests.{lt-ltb, ltb-false}
 use Rattle.geometry.proofs.Laws.Shape.{by-test}
 use Rattle.model.specs.declared.block.Block.{Block}
@@ -16,15 +18,15 @@ use Rattle.rules.proofs.Blocks.{choice}
 use Rattle.rules.proofs.Blocks as rules
 use Rattle.rules.proofs.Counting.{clash}
 use Rattle.rules.specs.Blocks.{better, chosenTo}
-use Rattle.rules.specs.Drive.{blockAt, isFree, isFreeState}
-use Rattle.survey.specs.Pass.{candidate, chosenNext}
+use Rattle.rules.specs.Drive.{blockAt, clearBlock, isFree, isFreeState}
+use Rattle.survey.specs.Free.{Chosen, candidate, chosenNext, freeNext}
 use Rattle.survey.specs.Sight.{SameFree, choiceOf}
-use Rattle.survey.specs.declared.pass.Candidate.{Candidate}
-use Rattle.survey.specs.declared.pass.Pass.{Pass}
+use Rattle.survey.specs.declared.free.Candidate.{Candidate}
+use Rattle.survey.specs.declared.free.Candidates.{Candidates}
 use Rattle.tables.proofs.Chosen.{chosen-more, next}
 use Rattle.tables.specs.Changes.{ErasesKnown, betterIn, betterOf, chosen, fewer}
 use Rattle.tables.specs.declared.choice.Choice.{Choice}
-use Rattle.tables.specs.declared.choice.Choice.the-variants.{Block as Chosen, Nothing}
+use Rattle.tables.specs.declared.choice.Choice.the-variants.{Block as ChosenBlock, Nothing}
 
 -- ---- The same Free blocks, the same choice
 
@@ -93,8 +95,8 @@ first-stays t n c d w e f =
     }
 
 -- Block n becomes the first, and the first the second.
-first-becomes : (t : Table) (n : ℕ) (c d : Choice) → Two t n c d → betterOf c n (blockAt t n) ≡ Chosen n (blockAt t n .erases)
-    → Two t (n + 1) (Chosen n (blockAt t n .erases)) c
+first-becomes : (t : Table) (n : ℕ) (c d : Choice) → Two t n c d → betterOf c n (blockAt t n) ≡ ChosenBlock n (blockAt t n .erases)
+    → Two t (n + 1) (ChosenBlock n (blockAt t n .erases)) c
 first-becomes t n c d w e = record {
   first = ap chosen (sym e) ∙ chosen-more t n c (w .first-known) (w .first);
   first-known = refl;
@@ -132,7 +134,7 @@ candidate-next c n e few = by-test (ltb (c .erases) 4294967296)
     (λ l. rw (l, lt-ltb e (c .erases) (omega (arith, few, ltb-false (c .erases) 4294967296 l)), lt-ltb e 4294967296 few))
 
 -- .. and that one with more erases than a Free block is a block.
-candidate-known : (c : Candidate) (e : ℕ) → e < 4294967296 → ltb e (c .erases) ≡ false → choiceOf c ≡ Chosen (c .number) (c .erases)
+candidate-known : (c : Candidate) (e : ℕ) → e < 4294967296 → ltb e (c .erases) ≡ false → choiceOf c ≡ ChosenBlock (c .number) (c .erases)
 candidate-known c e few l = rw (lt-ltb (c .erases) 4294967296 (omega (arith, few, ltb-false e (c .erases) l)))
 
 free-better : (t : Table) (n : ℕ) (c : Choice) → isFree (blockAt t n) ≡ true → betterOf c n (blockAt t n) ≡ fewer c n (blockAt t n .erases)
@@ -142,14 +144,14 @@ held-better : (t : Table) (n : ℕ) (c : Choice) → isFree (blockAt t n) ≡ fa
 held-better t n c e = better-is (blockAt t n .state) c n (blockAt t n) ∙ rw e
 
 -- A Free block more, ..
-pub two-free : (t : Table) (n : ℕ) (p : Pass) → isFree (blockAt t n) ≡ true → blockAt t n .erases < 4294967296 → Two t n (choiceOf (p .first)) (choiceOf (p .second))
-    → Two t (n + 1) (choiceOf (chosenNext p n (blockAt t n .erases) .first)) (choiceOf (chosenNext p n (blockAt t n .erases) .second))
+pub two-free : (t : Table) (n : ℕ) (p : Candidates) → isFree (blockAt t n) ≡ true → blockAt t n .erases < 4294967296 → Two t n (choiceOf (p .first)) (choiceOf (p .second))
+    → Two t (n + 1) (choiceOf (freeNext p n (blockAt t n .erases) .first)) (choiceOf (freeNext p n (blockAt t n .erases) .second))
 two-free t n p e few w =
     let erases = blockAt t n .erases in
     by-test (ltb erases (p .first .erases))
     (λ l.
-    let new : choiceOf (candidate n erases) ≡ Chosen n erases = rw (lt-ltb erases 4294967296 few) in
-    let q : betterOf (choiceOf (p .first)) n (blockAt t n) ≡ Chosen n erases =
+    let new : choiceOf (candidate n erases) ≡ ChosenBlock n erases = rw (lt-ltb erases 4294967296 few) in
+    let q : betterOf (choiceOf (p .first)) n (blockAt t n) ≡ ChosenBlock n erases =
     free-better t n (choiceOf (p .first)) e ∙ sym (candidate-next (p .first) n erases few) ∙ rw l new in
     rw (l, new) (first-becomes t n (choiceOf (p .first)) (choiceOf (p .second)) w q))
     (λ l.
@@ -170,3 +172,30 @@ two-free t n p e few w =
 -- .. and one that is not.
 pub two-held : (t : Table) (n : ℕ) (c d : Choice) → isFree (blockAt t n) ≡ false → Two t n c d → Two t (n + 1) c d
 two-held t n c d e w = subst (λ (x : Choice). Two t (n + 1) c x) (held-better t n d e) (first-stays t n c d w (held-better t n c e) (λ _. e))
+
+-- A block more, Free or not.
+two-next : (t : Table) (n : ℕ) (p : Candidates) → blockAt t n .erases < 4294967296 → Two t n (choiceOf (p .first)) (choiceOf (p .second))
+    → Two t (n + 1) (choiceOf (chosenNext p n (blockAt t n) .first)) (choiceOf (chosenNext p n (blockAt t n) .second))
+two-next t n p few w = by-test (isFree (blockAt t n))
+    (λ e. rw e (two-free t n p e few w))
+    (λ e. rw e (two-held t n (choiceOf (p .first)) (choiceOf (p .second)) e w))
+
+-- A block more for each of a list, from number n on.
+pub chosen-two : (t : Table) (n : ℕ) (bs : List Block) (p r : Candidates) → ((i : ℕ) → i < length bs → blockAt t (n + i) ≡ getD bs i clearBlock)
+    → Two t n (choiceOf (p .first)) (choiceOf (p .second)) → Chosen n bs p r → Two t (n + length bs) (choiceOf (r .first)) (choiceOf (r .second))
+unfolding Chosen
+chosen-two t n [] p r same w e = let z : n + 0 ≡ n = omega arith in rw (z, e) w
+chosen-two t n (b ∷ bs) p r same w walk =
+    let here : blockAt t n ≡ b = ap (blockAt t) (sym (add-zero n)) ∙ same 0 (omega arith) in
+    let few : blockAt t n .erases < 4294967296 = rw here (walk .0) in
+    let rest : Chosen (n + 1) bs (chosenNext p n (blockAt t n)) r = rw here (walk .1) in
+    let more = chosen-two t (n + 1) bs (chosenNext p n (blockAt t n)) r
+    (λ i k. ap (blockAt t) (shift n i) ∙ same (suc i) (omega (arith, k))) (two-next t n p few w) rest in
+    let z : n + 1 + length bs ≡ n + suc (length bs) = omega arith in
+    subst (λ (k : ℕ). Two t k (choiceOf (r .first)) (choiceOf (r .second))) z more
+  where
+    add-zero : (k : ℕ) → k + 0 ≡ k
+    add-zero k = omega arith
+
+    shift : (k i : ℕ) → k + 1 + i ≡ k + suc i
+    shift k i = omega arith

@@ -1,6 +1,7 @@
 -- Laws that the functions' proofs share.
 pub mod Marking
-pub mod Slots
+pub mod Testing
+pub mod Places
 pub mod Chains
 pub mod Seeing
 pub mod Outcomes
@@ -9,4 +10,5 @@ pub mod Choices
 pub mod Surveying
 pub mod Passing
 pub mod Sighting
+pub mod Listings
 pub mod Covering

@@ -1,4 +1,4 @@
--- The survey's tests together are the test of soundness.
+-- The scan's tests together are the test of soundness.
 use Prim.Native.Nat.{ℕ, _+_, _-_, _≤_, _<_, max}
 use mathlib.Core.Bool.{Bool, true, false, true≢false, not, _&&_, cond}
 use mathlib.Core.Path.{_≡_, refl, sym, ap, ap₂, _∙_}
@@ -6,12 +6,12 @@ use native.Mathlib.Omega.{arith}
 use lib.Dec.{eqb, leb}
 use lib.ListN.{getD}
 use borrow.Author.Tests.{le-leb, not-true}
-use Rattle.geometry.proofs.Laws.Shape.{both, by-test}
+use Rattle.geometry.proofs.Laws.Shape.{both, by-test, is-between}
 use Rattle.geometry.specs.Address.{isDomainId}
 use Rattle.geometry.specs.Shape.{adusPerBlock, withinLimits}
-use Rattle.survey.proofs.Slots.{apart-new, slot-apart, slot-shared, slot-tells}
+use Rattle.survey.proofs.Places.{apart-new, place-apart, place-shared, place-tells}
 use Rattle.survey.proofs.Steps.{free-sound, held-id}
-use Rattle.survey.specs.Clauses.{blocksSound, coveredTo, domainsSound, holderRecord, placementSlot, serialNew, slotNew}
+use Rattle.survey.specs.Clauses.{blocksSound, coveredTo, domainIndex, domainsSound, holderRecord, placeOf, serialNew, placeNew}
 use Rattle.model.specs.declared.block.Block.{Block}
 use Rattle.model.specs.declared.table.Domain.{Domain}
 use Rattle.model.specs.declared.table.Table.{Table}
@@ -30,15 +30,14 @@ use Rattle.rules.specs.Soundness.{blockSound, domainSound, placementsDiffer, sa
 joined : {a b : Bool} → a ≡ true → b ≡ true → a && b ≡ true
 joined e f = rw (e, f)
 
--- The record that the survey looks up for a domain's ID is that domain's.
-holder-at : (t : Table) (b : Block) → isDomainId (b .holder) ≡ true → holderRecord t b ≡ domainAt t (b .holder)
-holder-at t b e = ap (λ n. getD (t .domains) n clearDomain) (go (isDomainId (b .holder)) e)
-  where
-    go : (s : Bool) → s ≡ true → cond s (b .holder - 1) 0 ≡ b .holder - 1
-    go true f = refl
-    go false f = absurd (true≢false (sym f))
+-- The record that the scan looks up for a domain's ID is that domain's.
+pub index-of : (h : ℕ) → isDomainId h ≡ true → domainIndex h ≡ h - 1
+index-of h e = let l = is-between 1 16 h e in omega (arith, l .least, l .most)
 
--- The test of a block, with the record that the survey looks up, ..
+holder-at : (t : Table) (b : Block) → isDomainId (b .holder) ≡ true → holderRecord t b ≡ domainAt t (b .holder)
+holder-at t b e = ap (λ n. getD (t .domains) n clearDomain) (index-of (b .holder) e)
+
+-- The test of a block, with the record that the scan looks up, ..
 abbrev testOf : Table → Block → Bool
 testOf t b = blockSound (adusPerBlock (t .config) .0) (t .config .period) (holderRecord t b) b
 
@@ -66,14 +65,14 @@ pub record Counts (t : Table) (held opened : ℕ → ℕ) : Type 0 where
   pub held-counted : (i : ℕ) → i < 16 → held i ≡ heldCount t (i + 1)
   pub open-counted : (i : ℕ) → i < 16 → opened i ≡ openCount t (i + 1)
 
--- The survey numbers domains from 0, the rules from 1.
+-- The scan numbers domains from 0, the rules from 1.
 domain-at : (t : Table) (i : ℕ) → getD (t .domains) i clearDomain ≡ domainAt t (i + 1)
 domain-at t i = ap (λ n. getD (t .domains) n clearDomain) (before i)
   where
     before : (n : ℕ) → n ≡ n + 1 - 1
     before n = omega arith
 
--- With the counts the survey's sum is the coverage.
+-- With the counts the scan's sum is the coverage.
 pub covers : (t : Table) (held opened : ℕ → ℕ) → Counts t held opened → coveredTo (t .domains) held 16 ≡ coverage (reservedBy t) (heldCount t)
 unfolding coveredTo coverage
 covers t held opened c =
@@ -86,7 +85,7 @@ covers t held opened c =
 abbrev domainTest : Table → ℕ → Bool
 domainTest t d = domainSound (size t) (heldCount t d) (openCount t d) (domainAt t d)
 
--- .. which the survey tests of every domain.
+-- .. which the scan tests of every domain.
 domain-tests : (t : Table) (held opened : ℕ → ℕ) → Counts t held opened
     → domainsSound (t .domains) (size t) held opened 16 ≡ eachDomain (domainTest t)
 unfolding domainsSound
@@ -96,7 +95,7 @@ domain-tests t held opened c =
     (λ i. domainTest t (i + 1))
     (λ i l. rw (domain-at t i, c .held-counted i l, c .open-counted i l))
 
--- The survey's tests, with these counts.
+-- The scan's tests, with these counts.
 abbrev pub passes : Table → (ℕ → ℕ) → (ℕ → ℕ) → Bool
 passes t held opened =
     blocksSound t (size t) && domainsSound (t .domains) (size t) held opened 16 && leb (coveredTo (t .domains) held 16) (size t)
@@ -105,27 +104,27 @@ passes t held opened =
 record Tested (t : Table) (n : ℕ) : Type 0 where
   own : blockSound (adusPerBlock (t .config) .0) (t .config .period) (domainAt t (blockAt t n .holder)) (blockAt t n)
       ≡ true
-  slot : slotNew t n ≡ true
+  slot : placeNew t n ≡ true
   serial : serialNew t n ≡ true
 
 blocks-apart : (t : Table) → blocksSound t (size t) ≡ true → (n : ℕ) → n < size t → Tested t n
 unfolding blocksSound
 blocks-apart t q n l =
-    let e = all-each (size t) (λ i. testOf t (blockAt t i) && slotNew t i && serialNew t i) q n l in
-    let e2 = both (testOf t (blockAt t n) && slotNew t n) (serialNew t n) e in
-    let e1 = both (testOf t (blockAt t n)) (slotNew t n) (e2 .0) in
+    let e = all-each (size t) (λ i. testOf t (blockAt t i) && placeNew t i && serialNew t i) q n l in
+    let e2 = both (testOf t (blockAt t n) && placeNew t n) (serialNew t n) e in
+    let e1 = both (testOf t (blockAt t n)) (placeNew t n) (e2 .0) in
     record { own = sym (holder-sound t (blockAt t n)) ∙ e1 .0; slot = e1 .1; serial = e2 .1 }
 
 blocks-together : (t : Table) → ((n : ℕ) → n < size t → Tested t n) → blocksSound t (size t) ≡ true
 unfolding blocksSound
 blocks-together t h =
-    each-all (size t) (λ i. testOf t (blockAt t i) && slotNew t i && serialNew t i)
+    each-all (size t) (λ i. testOf t (blockAt t i) && placeNew t i && serialNew t i)
     (λ n l. joined (joined (holder-sound t (blockAt t n) ∙ h n l .own) (h n l .slot)) (h n l .serial))
 
--- A placement of a block that has its clauses is below 16, so that the slots tell its open blocks apart.
+-- A placement of a block that has its clauses is below 16, so that the places tell its open blocks apart.
 placements-apart : (t : Table) → ((d : ℕ) → 1 ≤ d → d ≤ 16 → DomainFacts t d) → (n m : ℕ) → BlockFacts t (blockAt t n)
-    → slotNew t n ≡ true → m < n → placementsDiffer (blockAt t n) (blockAt t m) ≡ true
-unfolding placementSlot
+    → placeNew t n ≡ true → m < n → placementsDiffer (blockAt t n) (blockAt t m) ≡ true
+unfolding placeOf
 placements-apart t domains n m own new l =
     let b = blockAt t n in
     let other = blockAt t m in
@@ -138,17 +137,17 @@ placements-apart t domains n m own new l =
     let few = domains (b .holder) (o .low) (o .high) .existing (o .exists) .few-placements in
     let placements = domainAt t (b .holder) .placements in
     let s =
-    slot-shared (b .state) (other .state) (b .holder) (other .holder) placements few (λ g. id) (o .below) (h .1)
+    place-shared (b .state) (other .state) (b .holder) (other .holder) placements few (λ g. id) (o .below) (h .1)
     (q .1) in
-    absurd (slot-apart t n new m l (s .1) (s .0)))
+    absurd (place-apart t n new m l (s .1) (s .0)))
     (λ e. rw e)
 
-slots-apart : (t : Table) (n : ℕ) → ((m : ℕ) → m < n → placementsDiffer (blockAt t n) (blockAt t m) ≡ true) → slotNew t n ≡ true
-unfolding placementSlot
-slots-apart t n differ = apart-new t n (λ m l small e.
+places-apart : (t : Table) (n : ℕ) → ((m : ℕ) → m < n → placementsDiffer (blockAt t n) (blockAt t m) ≡ true) → placeNew t n ≡ true
+unfolding placeOf
+places-apart t n differ = apart-new t n (λ m l small e.
     let b = blockAt t n in
     let other = blockAt t m in
-    let s = slot-tells (b .state) (other .state) (b .holder) (other .holder) e small in
+    let s = place-tells (b .state) (other .state) (b .holder) (other .holder) e small in
     true≢false (sym (differ m l) ∙ rw (s .0, s .1, s .2, s .3)))
 
 -- They all pass exactly where the table is sound: soundness from the tests, ..
@@ -182,7 +181,7 @@ sound-blocks t s =
     let h = apart t s in
     blocks-together t (λ n l. record {
       own = all-each (size t) _ (h .blocks) n l;
-      slot = slots-apart t n (all-each n (λ m. placementsDiffer (blockAt t n) (blockAt t m))
+      slot = places-apart t n (all-each n (λ m. placementsDiffer (blockAt t n) (blockAt t m))
           (all-each (size t) (λ n. allTo (λ m. placementsDiffer (blockAt t n) (blockAt t m)) n) (h .placements-differ) n l));
       serial = all-each (size t) (λ n. allTo (λ m. serialsDiffer (blockAt t n) (blockAt t m)) n) (h .serials-differ) n l;
     })
@@ -198,9 +197,9 @@ sound-passed t held opened c s =
     (ap (λ n. leb n (size t)) (covers t held opened c) ∙ h .coverage)
 
 -- .. and so the one is the other.
-pub survey-sound : (t : Table) (held opened : ℕ → ℕ) → withinLimits (t .config) ≡ true → Counts t held opened
+pub scan-sound : (t : Table) (held opened : ℕ → ℕ) → withinLimits (t .config) ≡ true → Counts t held opened
     → passes t held opened ≡ sound t
-survey-sound t held opened limits c =
+scan-sound t held opened limits c =
     same-test (passes t held opened) (sound t) (passed-sound t held opened limits c) (sound-passed t held opened c)
 
 -- A table outside the limits is not sound.

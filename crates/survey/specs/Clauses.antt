@@ -1,5 +1,5 @@
--- How the pass over the blocks and the one over the domains test the clauses of soundness.
-use Prim.Native.Nat.{ℕ, zero, suc, _+_, _*_, _%_, _-_, max}
+-- How the scan of the blocks and the one of the domains test the clauses of soundness.
+use Prim.Native.Nat.{ℕ, zero, suc, _+_, _*_, _/_, _%_, _-_, max}
 use mathlib.Core.Bool.{Bool, not, _&&_, cond}
 use mathlib.Core.List.{List}
 use lib.Dec.{eqb, ltb}
@@ -15,29 +15,29 @@ use Rattle.rules.specs.Counting.{allTo, sumTo}
 use Rattle.rules.specs.Drive.{blockAt, capacity, clearDomain, isFree}
 use Rattle.rules.specs.Soundness.{blockSound, domainSound, serialsDiffer}
 
--- Where the record of a holder stands; 0 for what is no domain's ID, whose block is not sound in any case.
-abbrev pub slot : ℕ → ℕ
-slot holder = cond (isDomainId holder) (holder - 1) 0
+-- Where the record of a holder stands: domain d at d - 1. What is no domain's ID has some record; its block is not sound in any case.
+abbrev pub domainIndex : ℕ → ℕ
+domainIndex holder = (holder + 15) % 16
 
 abbrev pub holderRecord : Table → Block → Domain
-holderRecord t b = getD (t .domains) (slot (b .holder)) clearDomain
+holderRecord t b = getD (t .domains) (domainIndex (b .holder)) clearDomain
 
 -- What two open blocks of one placement share; 256 for any other block, and where no sound table has such a holder or placement.
-abbrev pub slotFor : ℕ → ℕ → ℕ
-slotFor holder placement = cond (isDomainId holder && ltb placement 16) (16 * (holder - 1) + placement) 256
+abbrev pub placeFor : ℕ → ℕ → ℕ
+placeFor holder placement = cond (isDomainId holder && ltb placement 16) (16 * (holder - 1) + placement) 256
 
-abbrev pub slotIn : State → ℕ → ℕ
-slotIn Free holder = 256
-slotIn (Open Erase) holder = 256
-slotIn (Open (Placement p)) holder = slotFor holder p
-slotIn (Closed way) holder = 256
+abbrev pub placeIn : State → ℕ → ℕ
+placeIn Free holder = 256
+placeIn (Open Erase) holder = 256
+placeIn (Open (Placement p)) holder = placeFor holder p
+placeIn (Closed way) holder = 256
 
-unfoldable pub placementSlot : Block → ℕ
-placementSlot b = slotIn (b .state) (b .holder)
+unfoldable pub placeOf : Block → ℕ
+placeOf b = placeIn (b .state) (b .holder)
 
 -- What two blocks of one domain with the same serial share; 256 for a Free block.
 abbrev pub keyOf : ℕ → ℕ → ℕ
-keyOf holder serial = (serial % 256 + 16 * holder) % 256
+keyOf holder serial = (serial * 2654435769 % 4294967296 / 16777216 + 61 * holder) % 256
 
 unfoldable pub serialKey : Block → ℕ
 serialKey b = cond (isFree b) 256 (keyOf (b .holder) (b .serial))
@@ -52,9 +52,9 @@ abbrev pub sameKey : Table → ℕ → ℕ → Bool
 sameKey t k i = eqb (serialKey (blockAt t i)) k
 
 -- Of a block and those before it.
-unfoldable pub slotNew : Table → ℕ → Bool
-slotNew t n =
-    let s = placementSlot (blockAt t n) in not (not (allTo (λ i. not (eqb (placementSlot (blockAt t i)) s)) n) && ltb s 256)
+unfoldable pub placeNew : Table → ℕ → Bool
+placeNew t n =
+    let s = placeOf (blockAt t n) in not (not (allTo (λ i. not (eqb (placeOf (blockAt t i)) s)) n) && ltb s 256)
 
 unfoldable pub serialNew : Table → ℕ → Bool
 serialNew t n = allTo (λ i. serialsDiffer (blockAt t n) (blockAt t i)) n
@@ -63,7 +63,7 @@ unfoldable pub blocksSound : Table → ℕ → Bool
 blocksSound t n =
     allTo
     (λ i. blockSound (capacity t i .0) (t .config .period) (holderRecord t (blockAt t i)) (blockAt t i)
-    && slotNew t i
+    && placeNew t i
     && serialNew t i)
     n
 

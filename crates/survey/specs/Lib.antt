@@ -1,5 +1,7 @@
--- What the pass over the blocks tests and finds.
+-- What the scans test and count, and what a command sees of a table.
 pub mod Clauses
+pub mod Free
+pub mod Listing
 pub mod Marks
-pub mod Pass
+pub mod Scan
 pub mod Sight

@@ -1,14 +1,16 @@
--- The marks of the pass over the blocks: what each of its functions reads of them and leaves.
-use Prim.Native.Nat.{ℕ, zero, suc, _+_, _-_, _*_, _/_, _%_}
-use mathlib.Core.Bool.{Bool, true, not, _&&_, _||_, cond}
+-- The marks of the scan of the blocks: what each of its functions reads of them and leaves.
+use Prim.Native.Nat.{ℕ, zero, suc, _+_, _-_, _%_}
+use mathlib.Core.Bool.{Bool, true, not, _&&_, cond}
 use mathlib.Core.List.{List}
 use mathlib.Core.Path.{_≡_}
-use lib.Dec.{eqb, leb, ltb}
-use lib.ListN.{getD, length, replicate}
+use lib.Dec.{eqb, ltb}
+use lib.ListN.{getD, length, replicate, set}
+use Rattle.model.specs.declared.block.Block.{Block}
+use Rattle.rules.specs.Drive.{clearBlock}
 
 -- How many marks there are, and one of them.
 abbrev pub markCount : ℕ
-markCount = 1056
+markCount = 800
 
 abbrev pub mark : List ℕ → ℕ → ℕ
 mark marks i = getD marks i 0
@@ -18,46 +20,41 @@ noMarks = replicate markCount 0
 
 -- ---- What changes
 
--- A block more that a domain holds, and one more open if it is.
-pub record Counted (n : ℕ) (opened : Bool) (before after : List ℕ) : Type 0 where
-  pub entries : length after ≡ length before
-  pub held-more : mark after n ≡ (mark before n + 1) % 4294967296
-  pub open-more : mark after (16 + n) ≡ cond opened ((mark before (16 + n) + 1) % 4294967296) (mark before (16 + n))
-  pub others : (j : ℕ) → ¬ (j ≡ n) → ¬ (j ≡ 16 + n) → mark after j ≡ mark before j
+-- One of them is one more.
+abbrev pub raised : ℕ → List ℕ → List ℕ
+raised i marks = set marks i ((mark marks i + 1) % 65536)
 
--- A slot is taken; 256 is none.
-pub record SlotTaken (slot : ℕ) (new : Bool) (before after : List ℕ) : Type 0 where
+-- A place is taken by block n, if no block has it.
+pub record PlaceTaken (place n : ℕ) (new : Bool) (before after : List ℕ) : Type 0 where
   pub entries : length after ≡ length before
-  pub first : new ≡ eqb slot 256 || eqb (mark before (32 + slot)) 0
-  pub now-taken : ¬ (slot ≡ 256) → mark after (32 + slot) ≡ 1
-  pub others : (j : ℕ) → ¬ (j ≡ 32 + slot) → mark after j ≡ mark before j
-  pub none : slot ≡ 256 → after ≡ before
+  pub first : new ≡ eqb (mark before (32 + place)) 0
+  pub now-taken : new ≡ true → after ≡ set before (32 + place) (n + 1)
+
+-- Block n is the last of its key; last is the one before it, counted from 1.
+pub record Linked (n key last : ℕ) (before after : List ℕ) : Type 0 where
+  pub entries : length after ≡ length before
+  pub last-is : last ≡ mark before (288 + key)
+  pub end : mark after (288 + key) ≡ n + 1
+  pub link : mark before (544 + n) ≡ 0 → mark after (544 + n) ≡ last
+  pub others : (j : ℕ) → ¬ (j ≡ 288 + key) → ¬ (j ≡ 544 + n) → mark after j ≡ mark before j
+
+-- ---- Chains
 
 -- The block before one in its chain, counted from 1; a link that leads nowhere ends it.
 abbrev pub chainBefore : List ℕ → ℕ → ℕ
-chainBefore marks at = let before = mark marks (544 + (at - 1)) % 512 in cond (ltb before at) before 0
+chainBefore marks at = let before = mark marks (544 + (at - 1)) in cond (ltb before at) before 0
 
-abbrev pub sameInChain : List ℕ → ℕ → ℕ → ℕ → Bool
-sameInChain marks holder serial at =
-    eqb holder (mark marks (544 + (at - 1)) / 512 % 256) && eqb serial (mark marks (800 + (at - 1)))
+-- Two blocks that are held, with the same holder and the same serial.
+abbrev pub sameSerial : Block → Block → Bool
+sameSerial b other = eqb (b .holder) (other .holder) && eqb (b .serial) (other .serial)
 
--- No block of a chain has this holder and this serial; each leads to one with a smaller number.
-unfoldable pub chainDiffersIn : ℕ → List ℕ → ℕ → ℕ → ℕ → Bool
-chainDiffersIn zero marks holder serial at = true
-chainDiffersIn (suc most) marks holder serial at =
-    cond (eqb at 0) true (not (sameInChain marks holder serial at) && chainDiffersIn most marks holder serial (chainBefore marks at))
+-- No block of a chain has the serial of b; each leads to one with a smaller number. A number that no block has ends it.
+unfoldable pub chainDiffersIn : ℕ → List Block → List ℕ → Block → ℕ → Bool
+chainDiffersIn zero bs marks b at = true
+chainDiffersIn (suc most) bs marks b at =
+    cond (eqb at 0) true
+    (not (ltb (length bs) at)
+    && (not (sameSerial b (getD bs (at - 1) clearBlock)) && chainDiffersIn most bs marks b (chainBefore marks at)))
 
-abbrev pub chainDiffers : List ℕ → ℕ → ℕ → ℕ → Bool
-chainDiffers marks holder serial at = chainDiffersIn at marks holder serial at
-
--- A block ends the chain of its key.
-abbrev pub chainFrom : List ℕ → ℕ → ℕ
-chainFrom marks key = let last = mark marks (288 + key) % 512 in cond (leb last 256) last 0
-
-pub record Linked (n key holder serial descriptor : ℕ) (differs : Bool) (before after : List ℕ) : Type 0 where
-  pub entries : length after ≡ length before
-  pub compared : differs ≡ chainDiffers before holder serial (chainFrom before key)
-  pub end : mark after (288 + key) ≡ n + 1
-  pub link : mark after (544 + n) ≡ mark before (288 + key) % 512 + 512 * holder + 131072 * descriptor
-  pub serial-mark : mark after (800 + n) ≡ serial
-  pub others : (j : ℕ) → ¬ (j ≡ 288 + key) → ¬ (j ≡ 544 + n) → ¬ (j ≡ 800 + n) → mark after j ≡ mark before j
+abbrev pub chainDiffers : List Block → List ℕ → Block → ℕ → Bool
+chainDiffers bs marks b at = chainDiffersIn at bs marks b at

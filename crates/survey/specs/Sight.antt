@@ -1,24 +1,28 @@
 -- What a command sees of a table.
-use Prim.Native.Nat.{ℕ, _+_, _*_, _/_, _<_, _≤_, max}
-use mathlib.Core.Bool.{true, false, _&&_, cond}
+use Prim.Native.Nat.{ℕ, _+_, _-_, _<_, _≤_, max}
+use mathlib.Core.Bool.{Bool, true, false, _&&_, cond}
 use mathlib.Core.List.{List}
 use mathlib.Core.Option.{Option, none, some}
 use mathlib.Core.Path.{_≡_}
-use lib.Dec.{ltb}
+use lib.Dec.{eqb, ltb}
 use lib.ListN.{getD, length, take}
 use Rattle.geometry.specs.Address.{isDomainId}
 use Rattle.geometry.specs.Shape.{adusPerBlock, withinLimits}
-use Rattle.survey.specs.Clauses.{coveredTo, domainsSound}
+use Rattle.survey.specs.Clauses.{coveredTo, domainsSound, placeFor}
 use Rattle.survey.specs.Marks.{mark, markCount, noMarks}
-use Rattle.survey.specs.Pass.{Passing, Walked, candidate, isListed, listMark, passWith, passing}
-use Rattle.survey.specs.declared.pass.Candidate.{Candidate}
-use Rattle.survey.specs.declared.pass.Pass.{Pass}
-use Rattle.survey.specs.declared.pass.Subject.{Subject}
+use Rattle.survey.specs.Free.{Chosen, noCandidates}
+use Rattle.survey.specs.Listing.{byteTold, indexTold, isListed, listMark, listedFrom}
+use Rattle.survey.specs.Scan.{Walked}
+use Rattle.survey.specs.declared.free.Candidate.{Candidate}
+use Rattle.survey.specs.declared.free.Candidates.{Candidates}
+use Rattle.survey.specs.declared.scan.Subject.{Subject}
 use Rattle.survey.specs.declared.sight.Covering.{Covering}
 use Rattle.survey.specs.declared.sight.Found.{Found}
 use Rattle.survey.specs.declared.sight.Found.the-variants.{Block as FoundBlock, Nothing}
 use Rattle.survey.specs.declared.sight.Sight.{Sight}
+use Rattle.survey.specs.declared.sight.Tally.{Tally}
 use Rattle.survey.specs.declared.sight.View.{View}
+use Rattle.model.specs.declared.block.Block.{Block}
 use Rattle.model.specs.declared.command.Listed.{Listed}
 use Rattle.model.specs.declared.table.Domain.{Domain}
 use Rattle.model.specs.declared.table.Table.{Table}
@@ -32,7 +36,7 @@ use Rattle.tables.specs.Changing.{presentBlocks}
 use Rattle.tables.specs.declared.choice.Choice.{Choice}
 use Rattle.tables.specs.declared.choice.Choice.the-variants as choice
 
--- What the pass carries as numbers: a block's number, 256 being none, ..
+-- What the scan carries as numbers: a block's number, 256 being none, ..
 abbrev pub foundOf : ℕ → Found
 foundOf n = cond (ltb n 256) (FoundBlock n) Nothing
 
@@ -81,23 +85,23 @@ pub record SeesPlacement (t : Table) (d p : ℕ) (x : Sight) : Type 0 where
 abbrev pub Seen : ℕ → Sight → Type 0
 Seen d x = (t : Table) × Sees t d x
 
--- What the marks tell of each block for a list: its mark and 16 times its P/E index, or 0 if it is not listed.
+-- What the marks tell of each block for a list: the byte of its descriptor, counted from 1, or 0 if it is not listed; and the P/E
+-- index of one that is.
 pub record SeesList (t : Table) (d : ℕ) (which : Listed) (x : Sight) (marks : List ℕ) : Type 0 where
-  pub codes : x .sound ≡ true → (n : ℕ) → n < size t
-      → mark marks (544 + n) / 131072
-      ≡ cond (isListed which d (blockAt t n))
-      (listMark which (blockAt t n) + 16 * wearIndex (t .config .rated) (blockAt t n .erases))
-      0
+  pub bytes : x .sound ≡ true → (n : ℕ) → n < size t
+      → byteTold marks n ≡ cond (isListed which d (blockAt t n)) (listMark which (blockAt t n) + 1) 0
+  pub indexes : x .sound ≡ true → (n : ℕ) → n < size t → isListed which d (blockAt t n) ≡ true
+      → indexTold marks n ≡ wearIndex (t .config .rated) (blockAt t n .erases)
 
--- ---- From the pass
+-- ---- From the scans
 
--- The subject has what the pass needs of the table's configuration.
+-- The subject has what the scan needs of the table's configuration.
 pub record SubjectOf (t : Table) (s : Subject) : Type 0 where
   pub same-period : s .period ≡ t .config .period
   pub same-capacity : withinLimits (t .config) ≡ true → s .capacity ≡ adusPerBlock (t .config) .0
   pub same-rated : s .rated ≡ t .config .rated
 
--- What the pass over the domains has found before the first, with one domain more, and after n of them.
+-- What the scan of the domains has found before the first, with one domain more, and after n of them.
 abbrev pub begunCovering : Covering
 begunCovering = record { sound = true; coverage = 0 }
 
@@ -111,33 +115,52 @@ pub record DomainsPassed (rs : List Domain) (blocks : ℕ) (marks : List ℕ) (n
   pub clauses : r .sound ≡ domainsSound rs blocks (mark marks) (λ i. mark marks (16 + i)) n
   pub sum-is : r .coverage ≡ coveredTo rs (mark marks) n
 
--- What was found before the first block.
-abbrev pub begunPass : Pass
-begunPass = passWith 1 256 (candidate 256 4294967296) (candidate 256 4294967296)
+-- The records of the drive's blocks.
+abbrev pub present : Table → List Block
+present t = take (presentBlocks (t .config)) (t .blocks)
 
--- The pass went over the blocks of a table, and found this.
-pub record PassedOver (t : Table) (s : Subject) (x : Passing) : Type 0 where
+-- The scan went over the blocks of a table: whether all are sound, and the marks that it left.
+pub record BlocksScanned (t : Table) (s : Subject) (ok : Bool) (marks : List ℕ) : Type 0 where
   pub records : length (t .blocks) ≡ 256
-  pub entries : length (x .marks) ≡ markCount
-  pub walked : Walked s (t .domains) 0 (take (presentBlocks (t .config)) (t .blocks)) (passing begunPass noMarks) x
+  pub walked : Walked s (t .domains) (present t) 0 (present t) ok noMarks marks
 
--- The number of the block that a command is about: the one that it names, or its placement's open one.
-abbrev pub aboutOf : Subject → Pass → ℕ
-aboutOf s p = cond (s .placing) (p .found) (s .number)
+-- A domain's entry among the marks, 0 for what is no domain's ID; and the open block of its placement, 256 if it has none.
+abbrev pub countOf : List ℕ → ℕ → ℕ → ℕ
+countOf marks from d = cond (isDomainId d) (mark marks (from + (d - 1))) 0
+
+abbrev pub openAt : List ℕ → ℕ → ℕ → ℕ
+openAt marks d p = let last = mark marks (32 + placeFor d p) in cond (isDomainId d && ltb p 16) (cond (eqb last 0) 256 (last - 1)) 256
+
+abbrev pub tallyOf : Subject → List ℕ → Tally
+tallyOf s marks = record {
+  held = countOf marks 0 (s .domain);
+  opened = countOf marks 16 (s .domain);
+  number = cond (s .placing) (openAt marks (s .domain) (s .number)) (s .number);
+}
+
+-- The Free blocks to be opened next were looked for, if the command may open one that it does not name.
+abbrev pub FreeChosen : Table → Subject → Candidates → Type 0
+FreeChosen t s c = s .choosing ≡ true → Chosen 0 (present t) noCandidates c
 
 -- What was read of a table.
-pub record Views (t : Table) (v : View) (marks : List ℕ) : Type 0 where
+pub record Views (t : Table) (v : View) : Type 0 where
+  pub marks : List ℕ
   pub same-config : v .config ≡ t .config
-  pub passed : PassedOver t (v .subject) (passing (v .pass) marks)
+  pub scanned : BlocksScanned t (v .subject) (v .sound) marks
   pub covered : DomainsPassed (t .domains) (size t) marks 16 (v .covering)
+  pub tallied : v .tally ≡ tallyOf (v .subject) marks
+  pub chosen : FreeChosen t (v .subject) (v .free)
   pub same-domain : v .domain ≡ domainAt t (v .subject .domain)
-  pub same-block : v .block ≡ getD (take (presentBlocks (t .config)) (t .blocks)) (aboutOf (v .subject) (v .pass)) clearBlock
+  pub same-block : v .block ≡ getD (present t) (v .tally .number) clearBlock
 
 -- What is seen, of a subject that has its numbers from the table's configuration: the table and the subject's domain, and where the
--- table is sound, the block that the subject is about, the choice, and what is listed.
-pub record Sighted (t : Table) (s : Subject) (marks : List ℕ) (r : Sight) : Type 0 where
+-- table is sound, the block that the subject is about and the choice.
+pub record Sighted (t : Table) (s : Subject) (r : Sight) : Type 0 where
   pub sees : SubjectOf t s → Sees t (s .domain) r
   pub names : SubjectOf t s → s .placing ≡ false → SeesBlock t (s .number) r
   pub places : SubjectOf t s → s .placing ≡ true → SeesPlacement t (s .domain) (s .number) r
   pub chooses : SubjectOf t s → s .choosing ≡ true → SeesChoice t r
-  pub lists : SubjectOf t s → s .listing ≡ true → SeesList t (s .domain) (s .listed) r marks
+
+-- The marks of a list, from any before it.
+abbrev pub ListGathered : Table → Subject → List ℕ → Type 0
+ListGathered t s marks = (before : List ℕ) × (length before ≡ markCount) × (marks ≡ listedFrom s 0 (present t) before)

@@ -1,25 +1,37 @@
-// The survey of a table, which every command begins with: one pass over the blocks and one over the domains test
-// whether it is sound, count each domain's blocks and find what the command is about.
+// What every command begins with: a scan of the blocks and one of the domains test whether the table is sound and count each
+// domain's blocks; what the command is about is then looked up.
 mod clauses;
+mod free;
+mod listing;
 mod marks;
-mod pass;
 mod questions;
+mod scan;
 mod sight;
 
-pub use clauses::holder_place;
+pub use clauses::holder_index;
+pub use free::Candidate;
+pub use free::Candidates;
+pub use free::choose;
+pub use free::no_candidates;
+pub use listing::byte_told;
+pub use listing::index_told;
+pub use listing::put_listed;
+pub use marks::chain_before;
 pub use marks::no_marks;
-pub use pass::Candidate;
-pub use pass::Pass;
-pub use pass::Subject;
-pub use pass::passed;
 pub use questions::covered_with;
 pub use questions::domain_verdict;
 pub use questions::store_verdict;
+pub use scan::Ranges;
+pub use scan::Subject;
+pub use scan::not_sound;
+pub use scan::same_serial;
+pub use scan::scan_block;
 pub use sight::Covering;
 pub use sight::Found;
 pub use sight::Sight;
+pub use sight::Tally;
 pub use sight::View;
-pub use sight::about;
 pub use sight::domain_passed;
 pub use sight::place;
 pub use sight::sighted;
+pub use sight::tally_of;

@@ -1,9 +1,10 @@
 // What a command sees of a table: all that its questions ask of it and its change needs.
 use crate::clauses::domain_sound;
 use crate::clauses::larger;
-use crate::pass::Candidate;
-use crate::pass::Pass;
-use crate::pass::Subject;
+use crate::free::Candidate;
+use crate::free::Candidates;
+use crate::marks::number;
+use crate::scan::Subject;
 use geometry::Config;
 use geometry::within_limits;
 use model::Block;
@@ -16,7 +17,7 @@ ghost use lib.ListN.{length};
 ghost use Rattle.geometry.specs.Address.{isDomainId};
 ghost use Rattle.model.specs.declared.table.Table.{Table};
 ghost use Rattle.survey.specs.Marks.{mark, markCount};
-ghost use Rattle.survey.specs.Sight.{Sighted, Views, aboutOf, choiceOf, coveringWith, foundOf};
+ghost use Rattle.survey.specs.Sight.{Sighted, Views, choiceOf, coveringWith, foundOf, openAt, tallyOf};
 
 // A block that is looked for.
 pub enum Found {
@@ -47,27 +48,20 @@ pub struct Covering {
     pub coverage: u64,
 }
 
-// A mark with its bound, which an element of a slice comes without.
-fn wide(n: u32) -> u64
-    ensures { λ r. ⌜ (r ≡ n) × (r < 4294967296) ⌝ }
-{
-    n as u64
-}
-
 // One domain more, with the blocks that the marks have counted for it.
 pub fn domain_passed(
     covering: Covering,
     n: usize,
     domain: Domain,
     blocks: u64,
-    marks: &[u32],
+    marks: &[u16],
 ) -> Covering
     requires { ⌜ (n < 16) × (length (now marks) ≡ markCount) ⌝ }
     requires { ⌜ covering .coverage ≤ 68719476736 ⌝ }
     ensures { λ r. ⌜ (r ≡ coveringWith covering n domain blocks (now (marks .entry))) × (r .coverage ≤ covering .coverage + 4294967296) ⌝ }
 {
-    let held = wide(marks[n]);
-    let opened = wide(marks[16 + n]);
+    let held = number(marks[n]) as u64;
+    let opened = number(marks[16 + n]) as u64;
     Covering {
         sound: covering.sound & domain_sound(blocks, held, opened, domain),
         coverage: covering.coverage + larger(domain.reserved as u64, held),
@@ -82,29 +76,64 @@ pub fn place(subject: Subject) -> u64
     if domain == 0 { 0 } else { domain - 1 }
 }
 
-// The number of the block that the command is about: the one that it names, or its placement's open one.
-pub fn about(subject: Subject, pass: Pass) -> u64
-    ensures { λ r. ⌜ r ≡ aboutOf subject pass ⌝ }
-{
-    if subject.placing {
-        pass.found
-    } else {
-        subject.number
-    }
-}
-
 // A domain's entry among the marks from a place on; 0 for what is no domain's ID.
-fn count_of(marks: &[u32], from: usize, domain: u64) -> u64
+fn count_of(marks: &[u16], from: usize, domain: u64) -> u64
     requires { ⌜ (from ≤ 16) × (length (now marks) ≡ markCount) ⌝ }
     ensures { λ r. ⌜ r ≡ cond (isDomainId domain) (mark (now (marks .entry)) (from + (domain - 1))) 0 ⌝ }
 {
     if 1 <= domain {
         if domain <= 16 {
             let n = (domain - 1) as usize;
-            return wide(marks[from + n]);
+            return number(marks[from + n]) as u64;
         }
     }
     0
+}
+
+// The open block of a domain's placement; 256 if it has none.
+fn open_at(marks: &[u16], domain: u64, placement: u64) -> u64
+    requires { ⌜ length (now marks) ≡ markCount ⌝ }
+    ensures { λ r. ⌜ r ≡ openAt (now (marks .entry)) domain placement ⌝ }
+{
+    if (1 <= domain) & (domain <= 16) & (placement < 16) {
+        let place = (16 * (domain - 1) + placement) as usize;
+        let last = number(marks[32 + place]) as u64;
+        if last == 0 {
+            return 256;
+        }
+        return last - 1;
+    }
+    256
+}
+
+// The block that the command is about: the one that it names, or its placement's open one.
+fn about(subject: Subject, marks: &[u16]) -> u64
+    requires { ⌜ length (now marks) ≡ markCount ⌝ }
+    ensures { λ r. ⌜ r ≡ tallyOf subject (now (marks .entry)) .number ⌝ }
+{
+    if subject.placing {
+        return open_at(marks, subject.domain, subject.number);
+    }
+    subject.number
+}
+
+// What the marks have counted for the command's domain, and the block that the command is about.
+pub struct Tally {
+    pub held: u64,
+    pub opened: u64,
+    pub number: u64,
+}
+
+pub fn tally_of(subject: Subject, marks: &[u16]) -> Tally
+    requires { ⌜ length (now marks) ≡ markCount ⌝ }
+    ensures { λ r. ⌜ r ≡ tallyOf subject (now (marks .entry)) ⌝ }
+{
+    let domain = subject.domain;
+    Tally {
+        held: count_of(marks, 0, domain),
+        opened: count_of(marks, 16, domain),
+        number: about(subject, marks),
+    }
 }
 
 fn found_in(number: u64) -> Found
@@ -127,38 +156,39 @@ fn choice_in(candidate: Candidate) -> Choice
     }
 }
 
-// What was read of a table for a command: its configuration, what the passes found, and the records of the domain and of
-// the block that the command is about.
+// What was read of a table for a command: its configuration, what the scans found, and the records of the domain and of the block that
+// the command is about.
 pub struct View {
     pub config: Config,
     pub subject: Subject,
-    pub pass: Pass,
+    pub sound: bool,
     pub covering: Covering,
+    pub tally: Tally,
+    pub free: Candidates,
     pub domain: Domain,
     pub block: Block,
 }
 
 // What is seen of a table with this view of it.
-pub fn sighted(view: View, marks: &[u32]) -> Sight
-    requires { ⌜ length (now marks) ≡ markCount ⌝ }
-    ensures { λ r. ⌜ ((t : Table) → Views t view (now (marks .entry)) → Sighted t (view .subject) (now (marks .entry)) r) ⌝ }
+pub fn sighted(view: View) -> Sight
+    ensures { λ r. ⌜ ((t : Table) → Views t view → Sighted t (view .subject) r) ⌝ }
 {
     let config = view.config;
     let domain = view.domain;
     let block = view.block;
-    let first = view.pass.first;
-    let second = view.pass.second;
+    let first = view.free.first;
+    let second = view.free.second;
     Sight {
         sound: within_limits(config)
-            & (view.pass.sound == 1)
+            & view.sound
             & view.covering.sound
             & (view.covering.coverage <= config.blocks),
         config,
         domain,
-        held: count_of(marks, 0, view.subject.domain),
-        opened: count_of(marks, 16, view.subject.domain),
+        held: view.tally.held,
+        opened: view.tally.opened,
         coverage: view.covering.coverage,
-        found: found_in(view.pass.found),
+        found: found_in(view.tally.number),
         block,
         first: choice_in(first),
         second: choice_in(second),

@@ -13,7 +13,7 @@ use lib.ListN.{getD, length}
 use lib.WfN.{Nat·lt-wfRel}
 use base.Fml.{Lft, GName, Share, Fml, ftrue, fsep, fat, froom, fdies, flft, fobor}
 use base.Logic.{SProp, ent, sep, emp, ex, guard, id⊢, via, exE, guardI, guardE}
-use mir.Syntax.{Ty, named, imm, w32, w64, tyInt, tyBool, tyPtr, tyRef, Body, local, loop, valueLocal}
+use mir.Syntax.{Ty, named, imm, w16, w64, tyInt, tyBool, tyPtr, tyRef, Body, local, loop, valueLocal}
 use mir.Val.{Val, vbool, vint, vstruct, vnil, vcons, WT, hasTy}
 use prog.Memory.{Memory}
 use prog.Routine.{Routine}
@@ -27,7 +27,7 @@ use types.Kit.{Given, Item, ‵, raw, _⊛_, some, given, later, ⋆, anyQ, atRe
 use types.Part.{agg, whole, sub, look-in}
 use types.Run.{look, store, init, forget, stop, hop, fld, from, load, lit, true-lit, of-opd, bin, assigns, assigns-last, stays, leaves-loop, returns, enter, alloc1, alloc0, params1, pass1, pass0, free1, free0, exec, and-then, no-more, land}
 use types.Share.{arr-parts}
-use denote.Builtin.{u32, u64, usize}
+use denote.Builtin.{u16, u64, usize}
 use denote.Exit.{yes}
 use denote.Index.{place as placeOf, place-is, others, takes, puts-back, row, looks-slice, shuts-slice}
 use denote.Laws.{Is, shows}
@@ -79,13 +79,13 @@ abbrev slice : Ty
 slice = sliceTy (tyRef (named 0) imm (pointee (the-row .written)))
 
 abbrev marked : Ty
-marked = sliceTy (tyRef (named 1) imm (tyInt w32))
+marked = sliceTy (tyRef (named 1) imm (tyInt w16))
 
 -- At the exit nothing need be had of the parameters.
 abbrev stayed : Stays (walk.ended .signature .params) (walk.ended .kept)
 stayed = (
   stay-dropped (shrSliceOf (0 ∷ []) tt (plain (λ _. the-row))) yes,
-  (stay-dropped (plain (λ _. u64)) yes, (stay-dropped (shrSliceOf (1 ∷ []) tt (plain (λ _. u32))) yes, tt)),
+  (stay-dropped (plain (λ _. u64)) yes, (stay-dropped (shrSliceOf (1 ∷ []) tt (plain (λ _. u16))) yes, tt)),
 )
 
 -- The machine value of what is found before the first domain.
@@ -153,7 +153,7 @@ module _ {M : Type 1} (𝓤 : URA M) (H : Heap 𝓤) (A : Atoms 𝓤) (W : Given
   r′ = record { ptr = (b′, o′); name = γ′; now = ms }
 
   abbrev Marks : Fml
-  Marks = ShrSlice (named 1) κ′ u32 .own r′ (sliceVal (b′, o′) n′ ∷ [])
+  Marks = ShrSlice (named 1) κ′ u16 .own r′ (sliceVal (b′, o′) n′ ∷ [])
 
   -- The arguments, their machine values, and all that the contract is stated over.
   abbrev x : RefT (List Domain) × (ℕ × (RefT (List ℕ) × Unit {0}))
@@ -170,7 +170,7 @@ module _ {M : Type 1} (𝓤 : URA M) (H : Heap 𝓤) (A : Atoms 𝓤) (W : Given
 
   -- What is had at the entry.
   abbrev Entry : List (Item 𝓤)
-  Entry = (‵ (flft κ q) ⊛ (‵ (flft κ′ q′) ⊛ ‵ ftrue)) ∷ ‵ (owns (ShrSlice (named 0) κ the-row ∷ u64 ∷ ShrSlice (named 1) κ′ u32 ∷ []) x at) ∷ []
+  Entry = (‵ (flft κ q) ⊛ (‵ (flft κ′ q′) ⊛ ‵ ftrue)) ∷ ‵ (owns (ShrSlice (named 0) κ the-row ∷ u64 ∷ ShrSlice (named 1) κ′ u16 ∷ []) x at) ∷ []
 
   -- What the pass has found after i domains.
   abbrev Found : ℕ → Covering → Type 0
@@ -221,7 +221,7 @@ module _ {M : Type 1} (𝓤 : URA M) (H : Heap 𝓤) (A : Atoms 𝓤) (W : Given
     ensures r = exE 𝓤 _ (λ ws. needs 𝓤 (Step r) (sem 𝓤 H A Back) (λ e. via 𝓤 (emp 𝓤) (top 𝓤 (sem 𝓤 H A Back)) (guardI 𝓤 (Step r) (emp 𝓤) e)))
 
   -- The body, its locals in the memory blocks l₀ to l₁₀.
-  module _ (𝓣 : Tables 𝓤 H) (g : Room the-row n) (g′ : Room u32 n′) (few : n ≤ 16) (all : n′ ≡ markCount) (wide : count < 2 ^ 64)
+  module _ (𝓣 : Tables 𝓤 H) (g : Room the-row n) (g′ : Room u16 n′) (few : n ≤ 16) (all : n′ ≡ markCount) (wide : count < 2 ^ 64)
       (fm : FmC 𝓤 H (W .laws) (𝓣 .C)) (known : Triple 𝓤 (𝓣 .C passed-symbol.name) (Passed 𝓤 H A mem″ run)) (l₀ l₁ l₂ l₃ l₄ l₅ l₆ l₇ l₈ l₉ l₁₀ : ℕ) where
     abbrev C : Calls 𝓤 H
     C = 𝓣 .C
@@ -284,7 +284,7 @@ module _ {M : Type 1} (𝓤 : URA M) (H : Heap 𝓤) (A : Atoms 𝓤) (W : Given
           use2 W (‵ (row the-row t ds b o)) (puts-back (shares the-row) t 𝓤 H A W ds i clearDomain b o small) $
           assigns ! (of-opd ! (load ! (from ! (stop !)) (look ! 9 refl))) (from ! (stop !)) (init ! 5 refl (typed u is)) $
           -- the call, with the marks as they are had once more
-          move ! (1 ∷ []) $ use1 W (‵ Marks ⊛ ‵ Marks) (shr-slice-copy 𝓤 H A W (named 1) κ′ u32 .twice r′ (sliceVal (b′, o′) n′ ∷ [])) $ split ! $
+          move ! (1 ∷ []) $ use1 W (‵ Marks ⊛ ‵ Marks) (shr-slice-copy 𝓤 H A W (named 1) κ′ u16 .twice r′ (sliceVal (b′, o′) n′ ∷ [])) $ split ! $
           move ! (3 ∷ 0 ∷ []) $ use2 W (raw (Passed 𝓤 H A mem″ run .pre (called i z u p v)))
           (calls i z u p v (omega (arith, small, few)) all (omega (arith, small, few, found .1)) wide is-found is) $
           calls-at ! fm (Passed 𝓤 H A mem″ run) known (called i z u p v)
@@ -396,7 +396,7 @@ module _ {M : Type 1} (𝓤 : URA M) (H : Heap 𝓤) (A : Atoms 𝓤) (W : Given
         by ! (loops t))
 
   -- The whole code, from the entry.
-  body : (𝓣 : Tables 𝓤 H) → Room the-row n → Room u32 n′ → n ≤ 16 → n′ ≡ markCount → count < 2 ^ 64
+  body : (𝓣 : Tables 𝓤 H) → Room the-row n → Room u16 n′ → n ≤ 16 → n′ ≡ markCount → count < 2 ^ 64
       → FmC 𝓤 H (W .laws) (𝓣 .C) → Triple 𝓤 (𝓣 .C passed-symbol.name) (Passed 𝓤 H A mem″ run)
       → ent 𝓤 (onEntry 𝓤 H A walk.signature (κ, (κ′, tt)) (q, (q′, tt)) x at)
       (WpFn 𝓤 H (𝓣 .C) (𝓣 .Λ) code.function (sliceVal (b, o) n ∷ vint w64 count ∷ sliceVal (b′, o′) n′ ∷ []) Post)
@@ -411,7 +411,7 @@ module _ {M : Type 1} (𝓤 : URA M) (H : Heap 𝓤) (A : Atoms 𝓤) (W : Given
   walks : Walks 𝓤 H A walk.ended stayed (WpFn 𝓤 H (𝓣 .C) (𝓣 .Λ) code.function) (walk.clauses 𝓤 H A mem″ run)
   walks = walked 𝓤 H A walk.ended stayed (walk.clauses 𝓤 H A mem″ run) (WpFn 𝓤 H (𝓣 .C) (𝓣 .Λ) code.function)
       (λ κs. (slice-vals, (uint-vals w64, (slice-vals, tt))))
-      (λ κs. (shr-slice-tells (named 0) (κs .0) the-row, (uint-tells w64, (shr-slice-tells (named 1) (κs .1 .0) u32, tt))))
+      (λ κs. (shr-slice-tells (named 0) (κs .0) the-row, (uint-tells w64, (shr-slice-tells (named 1) (κs .1 .0) u16, tt))))
       (λ κs qs bounds a g are. needs 𝓤 _ _ (λ asked.
       body 𝓤 H A W mem″ run (κs .0) (κs .1 .0) (qs .0) (qs .1 .0) (a .0 .ptr .0) (a .0 .ptr .1) (a .0 .name) (a .0 .now) (a .1 .0) (a .1 .1 .0 .ptr .0)
       (a .1 .1 .0 .ptr .1) (a .1 .1 .0 .name) (a .1 .1 .0 .now) 𝓣 (are .0 .0 .1) (are .1 .1 .0 .0 .1) (asked .0) (asked .1) (are .1 .0 .1)
@@ -422,7 +422,7 @@ module _ {M : Type 1} (𝓤 : URA M) (H : Heap 𝓤) (A : Atoms 𝓤) (W : Given
     goes-dropped 𝓤 H A W 2 (shrSliceOf (0 ∷ []) tt (plain (λ _. the-row))) yes (λ κs x f. refl),
     (
       goes-dropped 𝓤 H A W 2 (plain (λ _. u64)) yes (λ κs x f. refl),
-      (goes-dropped 𝓤 H A W 2 (shrSliceOf (1 ∷ []) tt (plain (λ _. u32))) yes (λ κs x f. refl), tt),
+      (goes-dropped 𝓤 H A W 2 (shrSliceOf (1 ∷ []) tt (plain (λ _. u16))) yes (λ κs x f. refl), tt),
     ),
   ) (walk.clauses 𝓤 H A mem″ run)
       (WpFn 𝓤 H (𝓣 .C) (𝓣 .Λ) code.function) (WpFn-mono 𝓤 H (W .laws) 𝓣 code.function) walks

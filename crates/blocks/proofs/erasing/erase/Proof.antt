@@ -2,7 +2,10 @@
 use mathlib.Core.List.{_++_}
 use mathlib.Core.Path.{_≡_, sym, ap, subst, _∙_}
 use native.Mathlib.Omega.{arith}
+use mathlib.Core.Bool.{true}
+use lib.Dec.{eqb}
 use lib.ListN.{length}
+use Rattle.rules.specs.Blocks.{anyBlock}
 use borrow.Author.Tests.{not-false, not-true}
 use borrow.Author.Needs.{needs}
 use Rattle.blocks.proofs.Erased.{Opens, erase-asked, erase-range, may-open, none-outcome, opened-outcome, opens, opens-inside}
@@ -24,7 +27,8 @@ passed : (c : tie.After-enum-told) → let z = c .before .before .before .before
 passed c t s = sym (c .before .before .erase-verdict .ensures t s) ∙ ap verdictNumber (c .enum-told .given .1)
 
 -- The block that is found is the one to open, and the record is its.
-opened-found : (c : tie.After-n) → let z = c .before .before .before .before .before .before .before .before .before .args in (t : Table) → Sees t (z .domain) (z .sight) → SeesBlock t (z .block) (z .sight) → SeesChoice t (z .sight)
+opened-found : (c : tie.After-n) → let z = c .before .before .before .before .before .before .before .before .before .args in (t : Table) → Sees t (z .domain) (z .sight) → SeesBlock t (z .block) (z .sight)
+    → (eqb (z .block) anyBlock ≡ true → SeesChoice t (z .sight))
     → Opens t (z .block) (erased.Block (c .n .given .0 .0) (c .n .given .0 .1 .0))
 opened-found c t s b f = let z = c .before .before .before .before .before .before .before .before .before .args in
     subst (Opens t (z .block)) (sym (c .before .before .erased-block .ensures) ∙ c .n .given .1)

@@ -21,7 +21,7 @@ one c k told = let z = c .before .before .before .before .before in
     seen (z .args .view) (z .args .command) k (z .args .marks .now) (c .sighted .result) (z .pre) (made c k told)
 
 sighted-requires : tie.Need-sighted-requires
-sighted-requires c κs = let z = c .before .before .before .before in marks-long (z .args .view) (z .args .command) (z .args .marks .now) (z .pre)
+sighted-requires c κs = search needs
 
 enum-known-command : tie.Need-enum-known-command
 enum-known-command c = search needs
@@ -48,7 +48,7 @@ enum-known-command-4 c = search needs
 
 erase-requires : tie.Need-erase-requires
 unfolding subjectOf
-erase-requires c κs = let o = one (c .before .before .before .before) _ (c .before .before .command4 .given .1) in (o .0, o .1 .sees, o .1 .names refl, o .1 .chooses refl)
+erase-requires c κs = let o = one (c .before .before .before .before) _ (c .before .before .command4 .given .1) in (o .0, o .1 .sees, o .1 .names refl, o .1 .chooses)
 
 enum-known-command-5 : tie.Need-enum-known-command-5
 enum-known-command-5 c = search needs
@@ -134,7 +134,7 @@ same-length c = search needs
 returns-4 : tie.Need-returns-4
 unfolding subjectOf Answered
 returns-4 c = let z = c .before .before .before .before .before .before .before .before .before .before .before .before .args in let told = c .before .before .before .before .before .command4 .given .1 in
-    rw told (λ t p. let s = made (c .before .before .before .before .before .before .before) _ told t p in c .before .before .erase .ensures t (z .words .now) (z .bytes .now) (s .sees) (s .names refl) (s .chooses refl))
+    rw told (λ t p. let s = made (c .before .before .before .before .before .before .before) _ told t p in c .before .before .erase .ensures t (z .words .now) (z .bytes .now) (s .sees) (s .names refl) (s .chooses))
 
 returns-5 : tie.Need-returns-5
 unfolding subjectOf Answered

@@ -13,6 +13,9 @@ use Rattle.rules.specs.Soundness.{domainSound, quotaKept}
 use borrow.Author.Needs.{needs}
 use Rattle.survey.proofs.clauses.domain_sound.Statement.{statement}
 use Rattle.survey.proofs.clauses.domain_sound.Tie as tie
+use Rattle.survey.proofs.clauses.domain_sound.Reads as reads
+use Rattle.survey.proofs.clauses.domain_sound.Lts as lts
+use Rattle.survey.proofs.clauses.limits_kept.Reads as limits-kept-reads
 
 of-existing : (r : Domain) (blocks held opened : ℕ) → r .exists ≡ true
     → domainSound blocks held opened r ≡ quotaKept blocks held r && (between 1 16 (r .placements) && between (r .placements) 256 (r .limit) && leb opened (r .limit))
@@ -44,20 +47,39 @@ of-missing r blocks held opened e = rw (e, and-true) (by-test (clear r)
     off true = refl
     off false = refl
 
-cast-placements : tie.Need-cast-placements
-cast-placements c = search needs
-
 cast-quota : tie.Need-cast-quota
 cast-quota c = search needs
 
-cast-limits : tie.Need-cast-limits
-cast-limits c = search needs
+cast-if2 : tie.Need-cast-if2
+cast-if2 c = search needs
 
 returns : tie.Need-returns
-returns c = let z = c .before .before .before .before .before .before .before .args in sym (of-existing (z .domain) (z .blocks) (z .held) (z .opened) (c .before .before .before .before .before .if1 .taken))
+returns c = let z = c .before .before .before .before .args in sym (of-existing (z .domain) (z .blocks) (z .held) (z .opened) (c .before .before .if1 .taken) ∙ rw (lt-leb _ _ (c .if2 .taken)))
 
 returns-2 : tie.Need-returns-2
-returns-2 c = let z = c .before .before .before .before .before .before .args in sym (of-missing (z .domain) (z .blocks) (z .held) (z .opened) (c .before .before .before .before .if1 .left))
+returns-2 c = let z = c .before .before .before .before .before .args in sym (of-existing (z .domain) (z .blocks) (z .held) (z .opened) (c .before .before .before .if1 .taken) ∙ rw (le-leb _ _ (c .before .if2 .left), lt-leb _ _ (c .if3 .taken)))
+
+returns-3 : tie.Need-returns-3
+returns-3 c = let z = c .before .before .before .before .before .before .args in sym (of-existing (z .domain) (z .blocks) (z .held) (z .opened) (c .before .before .before .before .if1 .taken) ∙ rw (le-leb _ _ (c .before .before .if2 .left), le-leb _ _ (c .before .if3 .left), lt-leb _ _ (c .if4 .taken)))
+
+limits-kept-requires : tie.Need-limits-kept-requires
+limits-kept-requires c κs = search needs
+
+returns-4 : tie.Need-returns-4
+returns-4 c = let z = c .before .before .before .before .before .before .before .args in sym (of-existing (z .domain) (z .blocks) (z .held) (z .opened) (c .before .before .before .before .before .if1 .taken) ∙ rw (le-leb _ _ (c .before .before .before .if2 .left), le-leb _ _ (c .before .before .if3 .left), le-leb _ _ (c .before .if4 .left)) (sym (c .limits-kept .ensures)))
+
+returns-5 : tie.Need-returns-5
+returns-5 c = let z = c .before .before .before .before .before .before .args in sym (of-missing (z .domain) (z .blocks) (z .held) (z .opened) (c .before .before .before .before .if1 .left))
 
 pub domain-sound-spec : {M : Type 1} → statement M
-domain-sound-spec = tie.close (tie.spec cast-placements cast-quota cast-limits returns returns-2)
+domain-sound-spec =
+    tie.close
+    (tie.spec
+    cast-quota
+    cast-if2
+    returns
+    returns-2
+    returns-3
+    limits-kept-requires
+    returns-4
+    returns-5)

@@ -1,23 +1,26 @@
 use native.Mathlib.Omega.{arith}
-use borrow.Author.Tests.{le-leb, lt-leb}
+use borrow.Author.Tests.{eq-eqb, eqb-true, ne-eqb, le-leb, lt-leb, lt-ltb, le-ltb, leb-true, ltb-true}
 use borrow.Author.Needs.{needs}
 use Rattle.survey.proofs.sight.count_of.Statement.{statement}
 use Rattle.survey.proofs.sight.count_of.Tie as tie
+use Rattle.survey.proofs.sight.count_of.Reads as reads
+use Rattle.survey.proofs.sight.count_of.Lts as lts
+use Rattle.survey.proofs.marks.number.Reads as number-reads
 
-add-wide : tie.Need-add-wide
-add-wide c = omega (arith, c .before .before .before .pre .0)
+add-number : tie.Need-add-number
+add-number c = omega (arith, c .before .before .before .pre .0)
 
-mul-wide : tie.Need-mul-wide
-mul-wide c = omega (arith, c .before .before .before .pre .0)
+mul-number : tie.Need-mul-number
+mul-number c = omega (arith, c .before .before .before .pre .0)
 
-shared-slice-read-wide : tie.Need-shared-slice-read-wide
-shared-slice-read-wide c = omega (arith, c .before .before .before .before .pre .0, c .before .before .before .before .pre .1)
+shared-slice-read-number : tie.Need-shared-slice-read-number
+shared-slice-read-number c = omega (arith, c .before .before .before .before .pre .0, c .before .before .before .before .pre .1)
 
-wide-requires : tie.Need-wide-requires
-wide-requires c κs = search needs
+number-requires : tie.Need-number-requires
+number-requires c κs = search needs
 
 returns : tie.Need-returns
-returns c = rw (le-leb 1 _ (c .before .before .before .if1 .taken), le-leb _ 16 (c .before .before .if2 .taken)) (c .wide .ensures .0)
+returns c = rw (le-leb 1 _ (c .before .before .before .if1 .taken), le-leb _ 16 (c .before .before .if2 .taken)) (c .number .ensures .0)
 
 returns-2 : tie.Need-returns-2
 returns-2 c = rw (lt-leb _ 16 (c .if2 .left), le-leb 1 _ (c .before .if1 .taken))
@@ -28,4 +31,11 @@ returns-3 c = rw (lt-leb 1 _ (c .if1 .left))
 pub count-of-spec : {M : Type 1} → statement M
 count-of-spec =
     tie.close
-    (tie.spec add-wide mul-wide shared-slice-read-wide wide-requires returns returns-2 returns-3)
+    (tie.spec
+    add-number
+    mul-number
+    shared-slice-read-number
+    number-requires
+    returns
+    returns-2
+    returns-3)

@@ -2,27 +2,32 @@ use native.Mathlib.Omega.{arith}
 use borrow.Author.Needs.{needs}
 use Rattle.survey.proofs.sight.domain_passed.Statement.{statement}
 use Rattle.survey.proofs.sight.domain_passed.Tie as tie
+use Rattle.survey.proofs.sight.domain_passed.Reads as reads
+use Rattle.survey.proofs.sight.domain_passed.Lts as lts
+use Rattle.survey.proofs.clauses.domain_sound.Reads as domain-sound-reads
+use Rattle.survey.proofs.clauses.larger.Reads as larger-reads
+use Rattle.survey.proofs.marks.number.Reads as number-reads
 
-mul-wide : tie.Need-mul-wide
-mul-wide c = search needs
+mul-number : tie.Need-mul-number
+mul-number c = search needs
 
-shared-slice-read-wide : tie.Need-shared-slice-read-wide
-shared-slice-read-wide c = search needs
+shared-slice-read-number : tie.Need-shared-slice-read-number
+shared-slice-read-number c = search needs
 
-wide-requires : tie.Need-wide-requires
-wide-requires c κs = search needs
+number-requires : tie.Need-number-requires
+number-requires c κs = search needs
 
-add-wide : tie.Need-add-wide
-add-wide c = search needs
+add-number : tie.Need-add-number
+add-number c = search needs
 
-mul-wide-2 : tie.Need-mul-wide-2
-mul-wide-2 c = search needs
+mul-number-2 : tie.Need-mul-number-2
+mul-number-2 c = search needs
 
-shared-slice-read-wide-2 : tie.Need-shared-slice-read-wide-2
-shared-slice-read-wide-2 c = search needs
+shared-slice-read-number-2 : tie.Need-shared-slice-read-number-2
+shared-slice-read-number-2 c = search needs
 
-wide-requires-2 : tie.Need-wide-requires-2
-wide-requires-2 c κs = search needs
+number-requires-2 : tie.Need-number-requires-2
+number-requires-2 c κs = search needs
 
 domain-sound-requires : tie.Need-domain-sound-requires
 domain-sound-requires c κs = search needs
@@ -33,28 +38,25 @@ cast-larger c = search needs
 larger-requires : tie.Need-larger-requires
 larger-requires c κs = search needs
 
-add-t17 : tie.Need-add-t17
-add-t17 c = search needs
+add-t18 : tie.Need-add-t18
+add-t18 c = search needs
 
 returns : tie.Need-returns
-returns c = let held = c .before .before .before .before .before .before .before .wide .ensures in let more = c .before .larger .ensures in (
-  rw (c .before .before .before .before .domain-sound .ensures, more, c .before .before .before .before .before .wide2 .ensures .0, held .0),
-  rw more (omega (arith, held .1)),
-)
+returns c = let held = c .before .before .before .before .before .before .before .number .ensures in let more = c .before .larger .ensures in (rw (c .before .before .before .before .domain-sound .ensures, more, c .before .before .before .before .before .number2 .ensures .0, held .0), rw more (omega (arith, held .1)))
 
 pub domain-passed-spec : {M : Type 1} → statement M
 domain-passed-spec =
     tie.close
     (tie.spec
-    mul-wide
-    shared-slice-read-wide
-    wide-requires
-    add-wide
-    mul-wide-2
-    shared-slice-read-wide-2
-    wide-requires-2
+    mul-number
+    shared-slice-read-number
+    number-requires
+    add-number
+    mul-number-2
+    shared-slice-read-number-2
+    number-requires-2
     domain-sound-requires
     cast-larger
     larger-requires
-    add-t17
+    add-t18
     returns)

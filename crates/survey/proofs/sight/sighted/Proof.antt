@@ -1,18 +1,16 @@
 use mathlib.Core.Path.{refl}
-use native.Mathlib.Omega.{arith}
 use Rattle.survey.proofs.Sighting.{sighted-as}
 use borrow.Author.Needs.{needs}
 use Rattle.survey.proofs.sight.sighted.Statement.{statement}
 use Rattle.survey.proofs.sight.sighted.Tie as tie
+use Rattle.survey.proofs.sight.sighted.Reads as reads
+use Rattle.survey.proofs.sight.sighted.Lts as lts
+use Rattle.geometry.proofs.within_limits.Reads as within-limits-reads
+use Rattle.survey.proofs.sight.choice_in.Reads as choice-in-reads
+use Rattle.survey.proofs.sight.found_in.Reads as found-in-reads
 
 within-limits-requires : tie.Need-within-limits-requires
 within-limits-requires c κs = search needs
-
-count-of-requires : tie.Need-count-of-requires
-count-of-requires c κs = (omega arith, c .before .before .before .before .before .before .before .before .before .before .before .pre)
-
-count-of-requires-2 : tie.Need-count-of-requires-2
-count-of-requires-2 c κs = (omega arith, c .before .before .before .before .before .before .before .before .before .before .before .before .pre)
 
 found-in-requires : tie.Need-found-in-requires
 found-in-requires c κs = search needs
@@ -25,11 +23,11 @@ choice-in-requires-2 c κs = search needs
 
 returns : tie.Need-returns
 returns c = λ t p. sighted-as p (record {
-  sound-is = rw (c .before .before .before .before .before .before .before .before .before .within-limits .ensures, p .same-config);
+  sound-is = rw (c .before .before .before .before .before .before .before .within-limits .ensures, p .same-config);
   config-is = p .same-config;
   domain-is = refl;
-  held-is = c .before .before .before .before .count-of .ensures;
-  opened-is = c .before .before .before .count-of2 .ensures;
+  held-is = refl;
+  opened-is = refl;
   coverage-is = refl;
   found-is = c .before .before .found-in .ensures;
   block-is = refl;
@@ -42,8 +40,6 @@ sighted-spec =
     tie.close
     (tie.spec
     within-limits-requires
-    count-of-requires
-    count-of-requires-2
     found-in-requires
     choice-in-requires
     choice-in-requires-2

@@ -1,4 +1,4 @@
--- The call of `answered`: the marks are lent as a `&[u32]` for a lifetime that is made for the call; the store, the words and the bytes are passed on for good.
+-- The call of `answered`: the marks are lent as a `&[u16]` for a lifetime that is made for the call; the store, the words and the bytes are passed on for good.
 use Prim.Native.Nat.{ℕ, _<_, _^_}
 use mathlib.Core.List.{List, [], _∷_}
 use mathlib.Core.Path.{_≡_, refl, sym}
@@ -19,11 +19,11 @@ use sound.WpLaws.{fmOf}
 use contract.Monad.{Fun}
 use types.Kit.{Given, Item, ‵, raw, _⊛_, some, later, given, atRet, _$_, _∵_, !, qed, by, move, use1, use3, drop, split, join, pick, learn, rewrite, fsplit, fjoin, feqI, await}
 use types.Part.{agg, whole, sub, look-in}
-use types.Run.{look, init, forget, stop, hop, fld, from, load, addr, assigns, exec, and-then, no-more, land}
+use types.Run.{lit, look, init, forget, stop, hop, fld, from, load, addr, assigns, exec, and-then, no-more, land}
 use types.SemTy.{cells}
 use types.Share.{arr-parts}
 use types.Tokens.{lft-new, lft-end, lent-back}
-use denote.Builtin.{u32}
+use denote.Builtin.{u16}
 use denote.Laws.{Is}
 use denote.Lend.{lends-shr-slice}
 use denote.Memory.{mem, shares}
@@ -45,7 +45,6 @@ use Rattle.manager.proofs.serving.serve_in.Code.Mir.{t-15, t-24}
 use Rattle.manager.proofs.serving.serve_in.Proof.Calls.{answered-name, Answers, Tokens, Slices, Lists, Finals, Lengths, Sights, to-answer, answer-may, answer-gives}
 use Rattle.manager.proofs.serving.serve_in.Proof.Frame.{En, place, holds, empty}
 use Rattle.manager.proofs.serving.serve_in.Proof.InMemory.{marks, marks-apart, marks-whole}
-use Rattle.manager.proofs.serving.serve_in.Proof.Look.{big-lit}
 use Rattle.manager.proofs.serving.serve_in.Proof.Start.{Goes}
 
 module _ {M : Type 1} (𝓤 : URA M) (H : Heap 𝓤) (A : Atoms 𝓤) (W : Given 𝓤 H A) (𝓣 : Tables 𝓤 H) (bs : List ℕ) (K : Val → SProp 𝓤)
@@ -55,10 +54,10 @@ module _ {M : Type 1} (𝓤 : URA M) (H : Heap 𝓤) (A : Atoms 𝓤) (W : Given
     (x : View) (ms : List ℕ) (k : Command) (xv mv kv : Val)
     (is-x : Is view.the-row x (xv ∷ [])) (is-m : Is marks ms (mv ∷ [])) (is-k : Is command.the-row k (kv ∷ [])) (viewed : Viewed x k ms) where
   -- The marks have room.
-  each : length ms ≡ 1056
+  each : length ms ≡ 800
   each = is-m .1 .0 .1
 
-  marked : Room u32 (length ms)
+  marked : Room u16 (length ms)
   marked = (omega (arith, each), omega (arith, each))
 
   abbrev l : ℕ
@@ -68,7 +67,7 @@ module _ {M : Type 1} (𝓤 : URA M) (H : Heap 𝓤) (A : Atoms 𝓤) (W : Given
   sights γ = record { ptr = (l, 0); name = γ; now = ms }
 
   abbrev Shared : Fml
-  Shared = arr-parts (shares u32) (length ms) .part fullShare ms l 0
+  Shared = arr-parts (shares u16) (length ms) .part fullShare ms l 0
 
   -- The three slices, as they are passed on.
   abbrev Toks : SProp 𝓤
@@ -105,7 +104,7 @@ module _ {M : Type 1} (𝓤 : URA M) (H : Heap 𝓤) (A : Atoms 𝓤) (W : Given
         exec ! (𝓣 .C) (𝓣 .Λ) (En 𝓤 H bs) t-15 (atRet (En 𝓤 H bs) K) $
         -- the four slices
         assigns ! (addr ! (from ! (stop !))) (from ! (stop !)) (init ! 6 refl (tt, tt)) $
-        assigns ! (agg ! (and-then ! (load ! (from ! (stop !)) (look ! 6 refl)) (and-then ! (big-lit ! (record { fits = lit< tt })) (no-more !))))
+        assigns ! (agg ! (and-then ! (load ! (from ! (stop !)) (look ! 6 refl)) (and-then ! (lit ! tt) (no-more !))))
         (from ! (stop !)) (init ! 7 refl (tt, (tt, (record { fits = lit< tt }, tt)))) $
         assigns ! (addr ! (from ! (fld ! refl (hop ! (look-in ! 3 (sub ! 0 refl (whole !))) (stop !))))) (from ! (stop !)) (init ! 8 refl (tt, tt)) $
         assigns ! (agg ! (and-then ! (load ! (from ! (stop !)) (look ! 8 refl)) (and-then ! (load ! (from ! (fld ! refl (stop !))) (look-in ! 3 (sub ! 1 refl (whole !))))
@@ -117,11 +116,11 @@ module _ {M : Type 1} (𝓤 : URA M) (H : Heap 𝓤) (A : Atoms 𝓤) (W : Given
         assigns ! (agg ! (and-then ! (load ! (from ! (stop !)) (look ! 12 refl)) (and-then ! (load ! (from ! (fld ! refl (stop !))) (look-in ! 5 (sub ! 1 refl (whole !))))
         (no-more !)))) (from ! (stop !)) (init ! 13 refl (tt, (tt, (record { fits = bytes-fit }, tt)))) $
         -- the marks are lent
-        move ! (1 ∷ []) $ use1 W (‵ (cells (mem u32) ms l 0)) (marks-apart 𝓤 H A W l ms mv is-m) $
-        rewrite ! 0 (λ (F : Fml). ‵ F) (sym (parts-cells u32 fullShare ms l 0)) refl $ feqI ! ℕ (length ms) (length ms) refl $ fjoin ! $
+        move ! (1 ∷ []) $ use1 W (‵ (cells (mem u16) ms l 0)) (marks-apart 𝓤 H A W l ms mv is-m) $
+        rewrite ! 0 (λ (F : Fml). ‵ F) (sym (parts-cells u16 fullShare ms l 0)) refl $ feqI ! ℕ (length ms) (length ms) refl $ fjoin ! $
         lft-new ! tt (λ α. move ! (1 ∷ []) $
         use1 W (later (some (λ (γ : GName). ‵ (Sights 𝓤 H A W mem″ run κ₁ κ₂ κ₃ q₁ q₂ q₃ store words bytes α x (sights γ) k xv kv) ⊛ ‵ (flent (α ∷ []) Shared))))
-        (lends-shr-slice 𝓤 H A W u32 (named 0) (α ∷ []) fullShare ms l 0 marked) $ await ! tt $ pick ! (λ γ. split ! $
+        (lends-shr-slice 𝓤 H A W u16 (named 0) (α ∷ []) fullShare ms l 0 marked) $ await ! tt $ pick ! (λ γ. split ! $
         -- the call
         move ! (2 ∷ 17 ∷ []) $ join ! $ move ! (0 ∷ 1 ∷ 17 ∷ []) $
         use3 W (raw (Answers 𝓤 H A W mem″ run .pre (to α γ)))
@@ -141,7 +140,7 @@ module _ {M : Type 1} (𝓤 : URA M) (H : Heap 𝓤) (A : Atoms 𝓤) (W : Given
         forget ! 4 refl $ forget ! 5 refl $ forget ! 6 refl $ forget ! 7 refl $ forget ! 8 refl $ forget ! 9 refl $ forget ! 10 refl $ forget ! 11 refl $ forget ! 12 refl $
         forget ! 13 refl $ forget ! 14 refl $ forget ! 15 refl $ forget ! 16 refl $
         -- the marks come back, and are not needed any more
-        lft-end ! tt $ move ! (0 ∷ 3 ∷ []) $ lent-back ! tt $ fsplit ! $ drop ! $ rewrite ! 0 (λ (F : Fml). ‵ F) (parts-cells u32 fullShare ms l 0) refl $
+        lft-end ! tt $ move ! (0 ∷ 3 ∷ []) $ lent-back ! tt $ fsplit ! $ drop ! $ rewrite ! 0 (λ (F : Fml). ‵ F) (parts-cells u16 fullShare ms l 0) refl $
         use1 W (some (λ (u : Val). given (Is marks ms (u ∷ [])) (holds 𝓤 H bs 11 u))) (marks-whole 𝓤 H A W l ms each) $ pick ! (λ u. learn ! (λ is-u. forget ! 0 refl $
         move ! (3 ∷ 0 ∷ 4 ∷ 5 ∷ 6 ∷ 7 ∷ 8 ∷ 9 ∷ 10 ∷ 11 ∷ 12 ∷ 13 ∷ 14 ∷ 15 ∷ 16 ∷ []) $ by ! (goes r z v is-r (f .0) (f .1) .prf))))))))));
   }

@@ -15,7 +15,7 @@ use prog.Wp.{Heap}
 use ghost.Atoms.{Atoms, sem}
 use contract.Monad.{Fun, fact}
 use types.Kit.{Given, ‵, raw, _⊛_, _$_, _∵_, !, qed, move, keep, drop, split, join, fsplit, fjoin, feqL, check, show, frame, done}
-use denote.Builtin.{u8, u32, u64}
+use denote.Builtin.{u8, u16, u64}
 use denote.Enum.Laws.{makes as enum-makes}
 use denote.Laws.{Is}
 use denote.Plain.{uint-makes}
@@ -45,13 +45,13 @@ use Rattle.tables.specs.declared.change.Outcome.{Outcome}
 use Rattle.tables.proofs.change.Change as change
 use Rattle.tables.proofs.change.Change.Laws as change-laws
 use Rattle.survey.specs.Marks.{markCount, noMarks}
-use Rattle.survey.specs.declared.pass.Pass.{Pass}
-use Rattle.survey.specs.declared.pass.Subject.{Subject}
+use Rattle.survey.specs.declared.scan.Ranges.{Ranges}
+use Rattle.survey.specs.declared.scan.Subject.{Subject}
 use Rattle.survey.specs.declared.sight.View.{View}
-use Rattle.survey.proofs.pass.Pass as pass
-use Rattle.survey.proofs.pass.Pass.Laws as pass-laws
-use Rattle.survey.proofs.pass.Subject as subject
-use Rattle.survey.proofs.pass.Subject.Laws as subject-laws
+use Rattle.survey.proofs.scan.Ranges as ranges
+use Rattle.survey.proofs.scan.Ranges.Laws as ranges-laws
+use Rattle.survey.proofs.scan.Subject as subject
+use Rattle.survey.proofs.scan.Subject.Laws as subject-laws
 use Rattle.survey.proofs.sight.View as view
 use Rattle.survey.proofs.sight.View.Laws as view-laws
 use Rattle.survey.proofs.no_marks as clearing
@@ -82,7 +82,7 @@ abbrev pub SeenDomains : ℕ → RefT (List Domain) → Fml
 SeenDomains β ds = ShrSlice (named 1) (β ∷ []) domain.the-row .own ds (sliceVal (ds .ptr) (length (ds .now)) ∷ [])
 
 abbrev pub Marks : ℕ → RefT (List ℕ) → Fml
-Marks δ ms = MutSlice (named 2) (δ ∷ []) u32 .own ms (sliceVal (ms .ptr) (length (ms .now)) ∷ [])
+Marks δ ms = MutSlice (named 2) (δ ∷ []) u16 .own ms (sliceVal (ms .ptr) (length (ms .now)) ∷ [])
 
 module _ {M : Type 1} (𝓤 : URA M) (H : Heap 𝓤) (A : Atoms 𝓤) (W : Given 𝓤 H A) where
   module _ (mem″ : Memory → SProp 𝓤) (run : Routine → Fun 𝓤) where
@@ -147,7 +147,7 @@ module _ {M : Type 1} (𝓤 : URA M) (H : Heap 𝓤) (A : Atoms 𝓤) (W : Given
     abbrev pub LooksAt : Contract 𝓤
     LooksAt = tripleOf 𝓤 H A looking.signature (looking.spec 𝓤 H A mem″ run)
 
-    module _ (α β δ : ℕ) (xs : RefT (List Block)) (ds : RefT (List Domain)) (c : Config) (s : Subject) (p : Pass) (ms : RefT (List ℕ)) (cv sv pv : Val) where
+    module _ (α β δ : ℕ) (xs : RefT (List Block)) (ds : RefT (List Domain)) (c : Config) (s : Subject) (p : Ranges) (ms : RefT (List ℕ)) (cv sv pv : Val) where
       abbrev pub to-look : LooksAt .Ghost
       to-look = (
         (
@@ -170,24 +170,24 @@ module _ {M : Type 1} (𝓤 : URA M) (H : Heap 𝓤) (A : Atoms 𝓤) (W : Given
       abbrev pub Alive : SProp 𝓤
       Alive = sep 𝓤 (A .lft (α ∷ []) fullShare) (sep 𝓤 (A .lft (β ∷ []) fullShare) (A .lft (δ ∷ []) fullShare))
 
-      pub look-may : Is config.the-row c (cv ∷ []) → Is subject.the-row s (sv ∷ []) → Is pass.the-row p (pv ∷ [])
-          → length (xs .now) ≤ 256 → length (ds .now) ≡ 16 → length (ms .now) ≡ markCount
+      pub look-may : Is config.the-row c (cv ∷ []) → Is subject.the-row s (sv ∷ []) → Is ranges.the-row p (pv ∷ [])
+          → length (xs .now) ≤ 256 → length (ds .now) ≡ 16 → length (ms .now) ≡ markCount → p .free ≤ length (xs .now) → p .list ≤ length (xs .now)
           → ent 𝓤 (sep 𝓤 Alive (sep 𝓤 (sem 𝓤 H A (Seen α xs)) (sep 𝓤 (sem 𝓤 H A (SeenDomains β ds)) (sem 𝓤 H A (Marks δ ms))))) (LooksAt .pre to-look)
-      look-may is-c is-s is-p few all each =
-          qed W ((‵ (flft (α ∷ []) fullShare) ⊛ (‵ (flft (β ∷ []) fullShare) ⊛ ‵ (flft (δ ∷ []) fullShare))) ∷ ‵ (Seen α xs) ∷ ‵ (SeenDomains β ds) ∷ ‵ (Marks δ ms) ∷ []) ∵ says ! (few, all, each) $
+      look-may is-c is-s is-p few all each free list =
+          qed W ((‵ (flft (α ∷ []) fullShare) ⊛ (‵ (flft (β ∷ []) fullShare) ⊛ ‵ (flft (δ ∷ []) fullShare))) ∷ ‵ (Seen α xs) ∷ ‵ (SeenDomains β ds) ∷ ‵ (Marks δ ms) ∷ []) ∵ says ! (few, all, each, free, list) $
           split ! $ move ! (1 ∷ []) $ split ! $ move ! (1 ∷ []) $ nothing ! $ move ! (1 ∷ 0 ∷ []) $ join ! $ move ! (1 ∷ 0 ∷ []) $ join ! $ move ! (1 ∷ 0 ∷ []) $ join ! $ frame ! $
           nothing ! $ move ! (3 ∷ 0 ∷ []) $ fjoin ! $
-          owned ! pass.the-row (Is pass.the-row) (makes pass.the-type pass-laws.the-plain 𝓤 H A) p (pv ∷ []) is-p $ fjoin ! $
+          owned ! ranges.the-row (Is ranges.the-row) (makes ranges.the-type ranges-laws.the-plain 𝓤 H A) p (pv ∷ []) is-p $ fjoin ! $
           owned ! subject.the-row (Is subject.the-row) (makes subject.the-type subject-laws.the-plain 𝓤 H A) s (sv ∷ []) is-s $ fjoin ! $
           owned ! config.the-row (Is config.the-row) (makes config.the-type config-laws.the-plain 𝓤 H A) c (cv ∷ []) is-c $ fjoin ! $
           move ! (2 ∷ 0 ∷ []) $ fjoin ! $ move ! (1 ∷ 0 ∷ []) $ done !
 
       -- the marks at the exit, and what is known of them
       abbrev pub Saw : View → List ℕ → SProp 𝓤
-      Saw r zs = guard 𝓤 (Looked c s p (xs .now) (ds .now) (ms .now) r zs × (length zs ≡ length (ms .now))) (sem 𝓤 H A (finally u32 (ms .name) zs))
+      Saw r zs = guard 𝓤 (Looked c s p (xs .now) (ds .now) (ms .now) r zs × (length zs ≡ length (ms .now))) (sem 𝓤 H A (finally u16 (ms .name) zs))
 
       abbrev Left : List ℕ → Fml
-      Left zs = fsep ftrue (fsep ftrue (fsep ftrue (fsep ftrue (fsep ftrue (fsep (fsep (finally u32 (ms .name) zs) (feq ℕ (length zs) (length (ms .now)))) ftrue)))))
+      Left zs = fsep ftrue (fsep ftrue (fsep ftrue (fsep ftrue (fsep ftrue (fsep (fsep (finally u16 (ms .name) zs) (feq ℕ (length zs) (length (ms .now)))) ftrue)))))
 
       look-told : (r : View) (zs : List ℕ) → ent 𝓤 (sep 𝓤 (sem 𝓤 H A (Left zs)) (fact 𝓤 (Looked c s p (xs .now) (ds .now) (ms .now) r zs))) (ex 𝓤 (Saw r))
       look-told r zs = needs 𝓤 _ (sem 𝓤 H A (Left zs)) (λ f.
@@ -287,7 +287,7 @@ module _ {M : Type 1} (𝓤 : URA M) (H : Heap 𝓤) (A : Atoms 𝓤) (W : Given
 
       module _ (α : ℕ) (x : View) (ms : RefT (List ℕ)) (k : Command) (xv kv : Val) where
         abbrev pub Sights : Fml
-        Sights = ShrSlice (named 0) (α ∷ []) u32 .own ms (sliceVal (ms .ptr) (length (ms .now)) ∷ [])
+        Sights = ShrSlice (named 0) (α ∷ []) u16 .own ms (sliceVal (ms .ptr) (length (ms .now)) ∷ [])
 
         abbrev pub to-answer : Answers .Ghost
         to-answer = (

@@ -9,7 +9,7 @@ use lib.ListN.{drop as rest, length, take, take-append-drop}
 use base.Fml.{Share, Fml, fat}
 use base.Logic.{SProp, ent, sep, wand, ex, guard, apply∗}
 use base.Share.{halves}
-use mir.Syntax.{Ty, w32, tyArray}
+use mir.Syntax.{Ty, w16, tyArray}
 use mir.Table.{spell}
 use mir.Val.{Val}
 use prog.Memory.{fieldOf}
@@ -20,7 +20,7 @@ use types.SemTy.{cells}
 use types.Share.{PartsLaws, arr-parts}
 use denote.Array.{Array, array-makes}
 use denote.ArrayMemory.{array-apart, array-whole}
-use denote.Builtin.{u32}
+use denote.Builtin.{u16}
 use denote.Laws.{Is, shows}
 use denote.Memory.{partAt, mem, pointee, shares, share-laws}
 use denote.Plain.{uint-makes}
@@ -53,7 +53,7 @@ abbrev pub domains : RattleType
 domains = Array domain.the-row 16
 
 abbrev pub marks : RattleType
-marks = Array u32 1056
+marks = Array u16 800
 
 -- The bytes of a table at which the arrays begin, computed from its type.
 abbrev pub blocksAt : ℕ
@@ -183,19 +183,19 @@ module _ {M : Type 1} (𝓤 : URA M) (H : Heap 𝓤) (A : Atoms 𝓤) (W : Given
 
   -- The marks of a local, taken apart; and put together again, with some machine value.
   module _ (l : ℕ) (ms : List ℕ) where
-    pub marks-apart : (v : Val) → Is marks ms (v ∷ []) → ent 𝓤 (H .at fullShare markArray l 0 v) (sem 𝓤 H A (cells (mem u32) ms l 0))
+    pub marks-apart : (v : Val) → Is marks ms (v ∷ []) → ent 𝓤 (H .at fullShare markArray l 0 v) (sem 𝓤 H A (cells (mem u16) ms l 0))
     marks-apart v is =
-        qed W (‵ (fat fullShare markArray l 0 v) ∷ []) ∵ owned ! marks (Is marks) (array-makes 𝓤 H A W u32 (uint-makes 𝓤 H A W w32) 1056) ms (v ∷ []) is $
+        qed W (‵ (fat fullShare markArray l 0 v) ∷ []) ∵ owned ! marks (Is marks) (array-makes 𝓤 H A W u16 (uint-makes 𝓤 H A W w16) 800) ms (v ∷ []) is $
         move ! (1 ∷ 0 ∷ []) $ use2 W (‵ (partAt marks fullShare ms l 0)) (part-in 𝓤 H A W marks refl fullShare ms l 0 v) $
-        use1 W (‵ (arr-parts (shares u32) 1056 .part fullShare ms l 0)) (array-apart 𝓤 H A W u32 fullShare tt 1056 ms l 0) $ fsplit ! $ drop ! $
-        rewrite ! 0 (λ (F : Fml). ‵ F) (parts-cells u32 fullShare ms l 0) refl $ done !
+        use1 W (‵ (arr-parts (shares u16) 800 .part fullShare ms l 0)) (array-apart 𝓤 H A W u16 fullShare tt 800 ms l 0) $ fsplit ! $ drop ! $
+        rewrite ! 0 (λ (F : Fml). ‵ F) (parts-cells u16 fullShare ms l 0) refl $ done !
 
     abbrev pub Held : Val → SProp 𝓤
     Held v = guard 𝓤 (Is marks ms (v ∷ [])) (H .at fullShare markArray l 0 v)
 
-    pub marks-whole : length ms ≡ 1056 → ent 𝓤 (sem 𝓤 H A (cells (mem u32) ms l 0)) (ex 𝓤 Held)
+    pub marks-whole : length ms ≡ 800 → ent 𝓤 (sem 𝓤 H A (cells (mem u16) ms l 0)) (ex 𝓤 Held)
     marks-whole all =
-        qed W (‵ (cells (mem u32) ms l 0) ∷ []) ∵ rewrite ! 0 (λ (F : Fml). ‵ F) (sym (parts-cells u32 fullShare ms l 0)) refl $
-        feqI ! ℕ (length ms) 1056 all $ fjoin ! $ use1 W (‵ (partAt marks fullShare ms l 0)) (array-whole 𝓤 H A W u32 fullShare 1056 ms l 0) $
+        qed W (‵ (cells (mem u16) ms l 0) ∷ []) ∵ rewrite ! 0 (λ (F : Fml). ‵ F) (sym (parts-cells u16 fullShare ms l 0)) refl $
+        feqI ! ℕ (length ms) 800 all $ fjoin ! $ use1 W (‵ (partAt marks fullShare ms l 0)) (array-whole 𝓤 H A W u16 fullShare 800 ms l 0) $
         use1 W (some (λ (v : Val). ‵ (fat fullShare markArray l 0 v) ⊛ ‵ (marks .own ms (v ∷ [])))) (part-out 𝓤 H A W marks refl fullShare ms l 0) $
         pick ! (λ v. split ! $ move ! (1 ∷ []) $ peeks ! marks (Is marks) (shows 𝓤 H A marks) ms (v ∷ []) (λ is. drop ! $ show ! Held v $ check ! is $ done !))

@@ -1,4 +1,4 @@
--- The call of `looked`: the first records of the table are lent as a `&[Block]`, all its domains as a `&[Domain]` and the marks as a `&mut [u32]`, each for a
+-- The call of `looked`: the first records of the table are lent as a `&[Block]`, all its domains as a `&[Domain]` and the marks as a `&mut [u16]`, each for a
 -- lifetime that is made for the call. Of the table one half is lent with the records, and the other with the domains. Once the lifetimes are ended the table is
 -- as it was, and the marks are as the contract says.
 use Prim.Native.Nat.{ℕ, _≤_, _+_}
@@ -25,7 +25,7 @@ use types.Run.{Opd, look, init, forget, stop, hop, fld, from, load, lit, addr, a
 use types.SemTy.{cells, Arr}
 use types.Share.{arr-parts}
 use types.Tokens.{lft-new, lft-end, lent-back}
-use denote.Builtin.{u32}
+use denote.Builtin.{u16}
 use denote.Laws.{Is}
 use denote.Lend.{Held, lends-slice, lends-shr-slice, slice-back}
 use denote.Memory.{mem, shares}
@@ -42,11 +42,11 @@ use Rattle.model.specs.declared.table.Domain.{Domain}
 use Rattle.model.specs.declared.table.Table.{Table}
 use Rattle.model.proofs.block.Block as block
 use Rattle.model.proofs.table.Domain as domain
-use Rattle.survey.specs.declared.pass.Pass.{Pass}
-use Rattle.survey.specs.declared.pass.Subject.{Subject}
+use Rattle.survey.specs.declared.scan.Ranges.{Ranges}
+use Rattle.survey.specs.declared.scan.Subject.{Subject}
 use Rattle.survey.specs.declared.sight.View.{View}
-use Rattle.survey.proofs.pass.Pass as pass
-use Rattle.survey.proofs.pass.Subject as subject
+use Rattle.survey.proofs.scan.Ranges as ranges
+use Rattle.survey.proofs.scan.Subject as subject
 use Rattle.survey.proofs.sight.View as view
 use Rattle.survey.proofs.sight.View.Laws as view-laws
 use Rattle.manager.specs.Looking.{Looked}
@@ -57,16 +57,11 @@ use Rattle.manager.proofs.serving.serve_in.Proof.InMemory.{marks, withR
 use Rattle.manager.proofs.serving.serve_in.Proof.InMemory.{Lies, LiesFor, LieBlocks, LieDomains, left, right, Rest, Beside, blocks-out, blocks-in, domains-out, domains-in, in-halves, of-halves}
 use Rattle.manager.proofs.serving.serve_in.Proof.Start.{Goes}
 
--- A number that is written out in full.
-pub big-lit : {M : Type 1} {𝓤 : URA M} {H : Heap 𝓤} {A : Atoms 𝓤} {K : Type 0} {W : Given 𝓤 H A} {Γ : List (Item 𝓤)} {E : Env 𝓤 H}
-    → K → {w : Width} {n : ℕ} → Fits w n → Opd K W Γ E (intBig w n) (vint w n)
-big-lit {𝓤 = 𝓤} t {w} {n} z = record { go = λ Kt h. via 𝓤 (Kt (vint w n)) h (guardI 𝓤 (Fits w n) (Kt (vint w n)) z) }
-
 module _ {M : Type 1} (𝓤 : URA M) (H : Heap 𝓤) (A : Atoms 𝓤) (W : Given 𝓤 H A) (𝓣 : Tables 𝓤 H) (bs : List ℕ) (K : Val → SProp 𝓤)
     (mem″ : Memory → SProp 𝓤) (run : Routine → Fun 𝓤) (known : Triple 𝓤 (𝓣 .C looked-name) (LooksAt 𝓤 H A W mem″ run))
     (b o : ℕ) (t : Table) (n : ℕ) (sixteen : length (t .domains) ≡ 16) (all : length (t .blocks) ≡ 256) (few : n ≤ 256)
-    (s : Subject) (p : Pass) (ms : List ℕ) (cv sv pv mv : Val)
-    (is-c : Is config.the-row (t .config) (cv ∷ [])) (is-s : Is subject.the-row s (sv ∷ [])) (is-p : Is pass.the-row p (pv ∷ [])) (is-m : Is marks ms (mv ∷ [])) where
+    (s : Subject) (p : Ranges) (ms : List ℕ) (cv sv pv mv : Val)
+    (is-c : Is config.the-row (t .config) (cv ∷ [])) (is-s : Is subject.the-row s (sv ∷ [])) (is-p : Is ranges.the-row p (pv ∷ [])) (is-m : Is marks ms (mv ∷ [])) (free-few : p .free ≤ n) (list-few : p .list ≤ n) where
   -- The records that are lent, how many they are, and that they have room; the domains and the marks have it too.
   abbrev lent : List Block
   lent = take n (t .blocks)
@@ -80,10 +75,10 @@ module _ {M : Type 1} (𝓤 : URA M) (H : Heap 𝓤) (A : Atoms 𝓤) (W : Given
   domains-fit : Room domain.the-row (length (t .domains))
   domains-fit = (omega (arith, sixteen), omega (arith, sixteen))
 
-  each : length ms ≡ 1056
+  each : length ms ≡ 800
   each = is-m .1 .0 .1
 
-  marked : Room u32 (length ms)
+  marked : Room u16 (length ms)
   marked = (omega (arith, each), omega (arith, each))
 
   -- Where the records, the domains and the marks lie.
@@ -136,12 +131,12 @@ module _ {M : Type 1} (𝓤 : URA M) (H : Heap 𝓤) (A : Atoms 𝓤) (W : Given
         assigns ! (agg ! (and-then ! (load ! (from ! (stop !)) (look ! 9 refl)) (and-then ! (lit ! tt) (no-more !))))
         (from ! (stop !)) (init ! 10 refl (tt, (tt, (record { fits = lit< tt }, tt)))) $
         assigns ! (addr ! (from ! (stop !))) (from ! (stop !)) (init ! 11 refl (tt, tt)) $
-        assigns ! (agg ! (and-then ! (load ! (from ! (stop !)) (look ! 11 refl)) (and-then ! (big-lit ! (record { fits = lit< tt })) (no-more !))))
+        assigns ! (agg ! (and-then ! (load ! (from ! (stop !)) (look ! 11 refl)) (and-then ! (lit ! tt) (no-more !))))
         (from ! (stop !)) (init ! 12 refl (tt, (tt, (record { fits = lit< tt }, tt)))) $
         -- the marks are lent, ..
-        move ! (6 ∷ []) $ use1 W (‵ (cells (mem u32) ms l 0)) (marks-apart 𝓤 H A W l ms mv is-m) $ lft-new ! tt (λ δ. move ! (1 ∷ []) $
-        use1 W (later (some (λ (γ″ : GName). ‵ (Marks δ (marking γ″)) ⊛ ‵ (flent (δ ∷ []) (Held u32 (length ms) l 0 γ″)))))
-        (lends-slice 𝓤 H A W u32 (named 2) (δ ∷ []) ms l 0 marked) $ await ! tt $ pick ! (λ γ″. split ! $
+        move ! (6 ∷ []) $ use1 W (‵ (cells (mem u16) ms l 0)) (marks-apart 𝓤 H A W l ms mv is-m) $ lft-new ! tt (λ δ. move ! (1 ∷ []) $
+        use1 W (later (some (λ (γ″ : GName). ‵ (Marks δ (marking γ″)) ⊛ ‵ (flent (δ ∷ []) (Held u16 (length ms) l 0 γ″)))))
+        (lends-slice 𝓤 H A W u16 (named 2) (δ ∷ []) ms l 0 marked) $ await ! tt $ pick ! (λ γ″. split ! $
         -- .. the records, ..
         move ! (3 ∷ []) $ use1 W (‵ (LiesFor 𝓤 H A W left b o t) ⊛ ‵ (LiesFor 𝓤 H A W right b o t)) (in-halves 𝓤 H A W b o t) $ split ! $
         use1 W (‵ (LieBlocks 𝓤 H A W left b o lent) ⊛ raw (Rest 𝓤 H A W left b o t n lent)) (blocks-out 𝓤 H A W left b o t n lent) $ split ! $
@@ -158,7 +153,8 @@ module _ {M : Type 1} (𝓤 : URA M) (H : Heap 𝓤) (A : Atoms 𝓤) (W : Given
         -- the call
         move ! (2 ∷ 10 ∷ []) $ join ! $ move ! (6 ∷ 0 ∷ []) $ join ! $ move ! (1 ∷ 7 ∷ []) $ join ! $ move ! (1 ∷ 4 ∷ 0 ∷ []) $
         use3 W (raw (LooksAt 𝓤 H A W mem″ run .pre (to α β δ γ γ′ γ″)))
-        (look-may 𝓤 H A W mem″ run α β δ (seen γ) (seeing γ′) (t .config) s p (marking γ″) cv sv pv is-c is-s is-p (omega (arith, long, few)) sixteen each) $
+        (look-may 𝓤 H A W mem″ run α β δ (seen γ) (seeing γ′) (t .config) s p (marking γ″) cv sv pv is-c is-s is-p (omega (arith, long, few)) sixteen each
+        (omega (arith, long, free-few)) (omega (arith, long, list-few))) $
         rewrite ! 12 (λ (m : ℕ). holds 𝓤 H bs 19 (sliceVal (b, first) m)) (sym long) refl $
         rewrite ! 14 (λ (m : ℕ). holds 𝓤 H bs 21 (sliceVal (b, second) m)) (sym sixteen) refl $
         rewrite ! 16 (λ (m : ℕ). holds 𝓤 H bs 23 (sliceVal (l, 0) m)) (sym each) refl $
@@ -168,7 +164,7 @@ module _ {M : Type 1} (𝓤 : URA M) (H : Heap 𝓤) (A : Atoms 𝓤) (W : Given
         (no-more !))))))) (λ v.
         use1 W (later (some (λ (r : View). given (Is view.the-row r (v ∷ []))
         ((‵ (flft (α ∷ []) fullShare) ⊛ (‵ (flft (β ∷ []) fullShare) ⊛ (‵ (flft (δ ∷ []) fullShare) ⊛ ‵ ftrue)))
-        ⊛ some (λ (zs : List ℕ). given (Looked (t .config) s p lent (t .domains) ms r zs × (length zs ≡ length ms)) (‵ (finally u32 γ″ zs)))))))
+        ⊛ some (λ (zs : List ℕ). given (Looked (t .config) s p lent (t .domains) ms r zs × (length zs ≡ length ms)) (‵ (finally u16 γ″ zs)))))))
         (look-gives 𝓤 H A W mem″ run α β δ (seen γ) (seeing γ′) (t .config) s p (marking γ″) cv sv pv v) $ await ! tt $ pick ! (λ r. learn ! (λ is-r. split ! $ move ! (1 ∷ []) $
         pick ! (λ zs. learn ! (λ f. move ! (1 ∷ []) $ split ! $ move ! (1 ∷ []) $ split ! $ move ! (1 ∷ []) $ split ! $
         land ! (from ! (stop !)) (init ! 21 refl (lawful view.the-type view-laws.the-laws 𝓤 H A W .typed r (v ∷ []) is-r .0)) $
@@ -186,7 +182,7 @@ module _ {M : Type 1} (𝓤 : URA M) (H : Heap 𝓤) (A : Atoms 𝓤) (W : Given
         use2 W (‵ (Lies 𝓤 H A W b o t)) (of-halves 𝓤 H A W b o t) $
         -- .. and the marks
         move ! (1 ∷ []) $ lft-end ! tt $ move ! (0 ∷ 3 ∷ 2 ∷ []) $
-        use3 W (later (‵ (Arr (mem u32) (length ms) .lies zs l 0))) (slice-back 𝓤 H A W u32 (δ ∷ []) γ″ zs (length ms) l 0) $ await ! tt $ fsplit ! $ drop ! $
+        use3 W (later (‵ (Arr (mem u16) (length ms) .lies zs l 0))) (slice-back 𝓤 H A W u16 (δ ∷ []) γ″ zs (length ms) l 0) $ await ! tt $ fsplit ! $ drop ! $
         use1 W (some (λ (u : Val). given (Is marks zs (u ∷ [])) (holds 𝓤 H bs 11 u))) (marks-whole 𝓤 H A W l zs (f .1 ∙ each)) $ pick ! (λ u. learn ! (λ is-z.
         move ! (1 ∷ 2 ∷ 3 ∷ 4 ∷ 5 ∷ 6 ∷ 0 ∷ []) $ by ! (goes r zs v u is-r is-z (f .0) .prf))))))))))))));
   }

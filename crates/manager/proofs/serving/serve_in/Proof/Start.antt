@@ -10,7 +10,7 @@ use lib.Dec.{T}
 use lib.ListN.{length, length-map}
 use base.Fml.{ftrue, fat}
 use base.Logic.{SProp}
-use mir.Syntax.{Body, w32, w64}
+use mir.Syntax.{Body, w16, w64}
 use mir.Val.{Val, vptr, vint, WT, hasTy}
 use prog.Memory.{Memory, fieldOf}
 use prog.Routine.{Routine}
@@ -23,7 +23,7 @@ use types.Part.{whole, sub, look-in}
 use types.Run.{look, init, forget, stop, hop, fld, from, load, of-opd, assigns, exec, and-then, no-more, land}
 use denote.Array.{array-lawful}
 use denote.Laws.{Is, shows}
-use denote.Builtin.{u32}
+use denote.Builtin.{u16}
 use denote.Plain.{uint-lawful}
 use denote.Steps.{peeks, heard, only}
 use denote.Struct.Laws.{lawful, owed, tells, val}
@@ -42,12 +42,11 @@ use Rattle.model.proofs.table.Table as table
 use Rattle.model.proofs.table.Table.Laws.{mir as layout, the-laws}
 use Rattle.tables.specs.Changing.{presentBlocks}
 use Rattle.survey.specs.Marks.{noMarks}
-use Rattle.survey.specs.Sight.{begunPass}
-use Rattle.survey.proofs.pass.Pass as pass
-use Rattle.survey.proofs.pass.Pass.Laws as pass-laws
-use Rattle.survey.proofs.pass.Subject as subject
-use Rattle.survey.proofs.pass.Subject.Laws as subject-laws
-use Rattle.manager.specs.Subjects.{beginningOf, subjectOf}
+use Rattle.survey.proofs.scan.Ranges as ranges
+use Rattle.survey.proofs.scan.Ranges.Laws as ranges-laws
+use Rattle.survey.proofs.scan.Subject as subject
+use Rattle.survey.proofs.scan.Subject.Laws as subject-laws
+use Rattle.manager.specs.Subjects.{beginningOf, rangesOf, subjectOf}
 use Rattle.manager.specs.declared.subjects.Beginning.{Beginning}
 use Rattle.manager.proofs.subjects.Beginning as beginning
 use Rattle.manager.proofs.subjects.Beginning.Laws as beginning-laws
@@ -63,8 +62,8 @@ count-field = refl
 subject-field : fieldOf beginning-laws.mir 1 ≡ known-at (subject-laws.mir, get (fieldOf beginning-laws.mir 1) tt .1)
 subject-field = refl
 
-pass-field : fieldOf beginning-laws.mir 2 ≡ known-at (pass-laws.mir, get (fieldOf beginning-laws.mir 2) tt .1)
-pass-field = refl
+ranges-field : fieldOf beginning-laws.mir 2 ≡ known-at (ranges-laws.mir, get (fieldOf beginning-laws.mir 2) tt .1)
+ranges-field = refl
 
 module _ {M : Type 1} (𝓤 : URA M) (H : Heap 𝓤) (A : Atoms 𝓤) (W : Given 𝓤 H A) (𝓣 : Tables 𝓤 H) (bs : List ℕ) (K : Val → SProp 𝓤) where
   -- From this context the code runs from a statement on, and its result is such that K.
@@ -73,7 +72,7 @@ module _ {M : Type 1} (𝓤 : URA M) (H : Heap 𝓤) (A : Atoms 𝓤) (W : Given
 
   -- The marks have the type of the local in which they are stored.
   marks-typed : (ms : List ℕ) (v : Val) → Is marks ms (v ∷ []) → T (hasTy markArray v) × WT v
-  marks-typed ms v is = array-lawful 𝓤 H A W u32 (uint-lawful 𝓤 H A W w32) 1056 .typed ms (v ∷ []) is .0
+  marks-typed ms v is = array-lawful 𝓤 H A W u16 (uint-lawful 𝓤 H A W w16) 800 .typed ms (v ∷ []) is .0
 
   -- The configuration of the table at (b, o) is read.
   pub reads : {G : Type 0} {Γ : List (Item 𝓤)} → G → (b o : ℕ) (t : Table)
@@ -97,10 +96,10 @@ module _ {M : Type 1} (𝓤 : URA M) (H : Heap 𝓤) (A : Atoms 𝓤) (W : Given
   }
 
   module _ (mem″ : Memory → SProp 𝓤) (run : Routine → Fun 𝓤) where
-    -- `begun` is called, and what it returns is taken apart: how many blocks there are, the subject, and what was found before the first block.
+    -- `begun` is called, and what it returns is taken apart: how many blocks there are, the subject, and how many blocks are looked through.
     pub begins : {G : Type 0} {Γ : List (Item 𝓤)} → G → Triple 𝓤 (𝓣 .C begun-name) (Begun 𝓤 H A W mem″ run) → (c : Config) (k : Command) (cv kv : Val)
         → Is config.the-row c (cv ∷ []) → Is command.the-row k (kv ∷ [])
-        → ((sv pv : Val) → Is subject.the-row (subjectOf c k) (sv ∷ []) → Is pass.the-row begunPass (pv ∷ []) → presentBlocks c ≤ 256
+        → ((sv pv : Val) → Is subject.the-row (subjectOf c k) (sv ∷ []) → Is ranges.the-row (rangesOf (subjectOf c k) (presentBlocks c)) (pv ∷ []) → presentBlocks c ≤ 256
         → Goes G (holds 𝓤 H bs 6 cv ∷ holds 𝓤 H bs 2 kv ∷ empty 𝓤 H bs 7 ∷ holds 𝓤 H bs 8 (vint w64 (presentBlocks c)) ∷ holds 𝓤 H bs 9 sv ∷ holds 𝓤 H bs 10 pv ∷ Γ) t-6)
         → Goes G (holds 𝓤 H bs 6 cv ∷ holds 𝓤 H bs 2 kv ∷ empty 𝓤 H bs 7 ∷ empty 𝓤 H bs 8 ∷ empty 𝓤 H bs 9 ∷ empty 𝓤 H bs 10 ∷ Γ) t-2
     begins {Γ = Γ} g known c k cv kv is-c is-k goes = record {
@@ -119,8 +118,8 @@ module _ {M : Type 1} (𝓤 : URA M) (H : Heap 𝓤) (A : Atoms 𝓤) (W : Given
           (init ! 3 refl (tt, record { fits = owed beginning.the-type beginning-laws.the-laws (beginningOf c k) (v ∷ []) is′ .0 .1 })) $
           assigns ! (of-opd ! (load ! (from ! (fld ! subject-field (stop !))) (look-in ! 2 (sub ! 1 subject-field (whole !))))) (from ! (stop !))
           (init ! 4 refl (lawful subject.the-type subject-laws.the-laws 𝓤 H A W .typed (subjectOf c k) _ (owed beginning.the-type beginning-laws.the-laws (beginningOf c k) (v ∷ []) is′ .1 .0) .0)) $
-          assigns ! (of-opd ! (load ! (from ! (fld ! pass-field (stop !))) (look-in ! 2 (sub ! 2 pass-field (whole !))))) (from ! (stop !))
-          (init ! 5 refl (lawful pass.the-type pass-laws.the-laws 𝓤 H A W .typed begunPass _ (owed beginning.the-type beginning-laws.the-laws (beginningOf c k) (v ∷ []) is′ .1 .1 .0) .0)) $
+          assigns ! (of-opd ! (load ! (from ! (fld ! ranges-field (stop !))) (look-in ! 2 (sub ! 2 ranges-field (whole !))))) (from ! (stop !))
+          (init ! 5 refl (lawful ranges.the-type ranges-laws.the-laws 𝓤 H A W .typed (rangesOf (subjectOf c k) (presentBlocks c)) _ (owed beginning.the-type beginning-laws.the-laws (beginningOf c k) (v ∷ []) is′ .1 .1 .0) .0)) $
           forget ! 2 refl $ by ! (goes _ _ (owed beginning.the-type beginning-laws.the-laws (beginningOf c k) (v ∷ []) is′ .1 .0)
           (owed beginning.the-type beginning-laws.the-laws (beginningOf c k) (v ∷ []) is′ .1 .1 .0)
           (subst (λ (z : Beginning). z .blocks ≤ 256) (e .0) (e .1)) .prf)))));
