@@ -17,7 +17,8 @@ use Rattle.model.specs.declared.table.Domain.{Domain}
 use Rattle.model.specs.declared.table.Table.{Table}
 use Rattle.placements.proofs.Stepping.{new-for}
 use Rattle.placements.specs.Asking.{mayOpenOf, mayOpenSeen, placementArguments, placementState}
-use Rattle.placements.specs.Placing.{blocksIn, roomOf, roomSeen}
+use Rattle.placements.specs.Onwards.{blocksIn}
+use Rattle.placements.specs.Placing.{roomOf, roomSeen}
 use Rattle.rules.proofs.Questions.{after}
 use Rattle.rules.specs.Blocks.{newBlocks, roomIn}
 use Rattle.rules.specs.Calls.{lending}

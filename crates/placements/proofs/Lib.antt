@@ -4,7 +4,5 @@ pub mod Asked
 pub mod Users
 pub mod Words
 pub mod Stepping
-pub mod Tables
-pub mod Filling
-pub mod Going
+pub mod Next
 pub mod Placed

@@ -1,7 +1,7 @@
--- A write by placement goes block by block: into the open one, then into the one that is chosen, and then into another.
+-- A write by placement goes block by block: into the open one, and then into one after the other that is chosen.
 use Prim.Native.Nat.{ℕ, suc, _+_, _-_, _/_, _≤_, _<_, min}
 use mathlib.Core.Bool.{true}
-use mathlib.Core.List.{List, append-nil}
+use mathlib.Core.List.{List, _++_}
 use mathlib.Core.Option.{Option, none, some}
 use mathlib.Core.Path.{_≡_, refl, sym, ap, subst, _∙_}
 use native.Mathlib.Nat.{add-div-right, div-eq-of-lt}
@@ -11,17 +11,19 @@ use lib.Dec.{eqb, leb}
 use lib.ListN.{drop, length, take}
 use borrow.Author.Tests.{eq-eqb, leb-false, leb-true, ne-eqb}
 use Rattle.geometry.proofs.Laws.Shape.{by-test, limits}
-use Rattle.geometry.specs.Shape.{adusPerBlock, withinLimits}
+use Rattle.geometry.specs.Shape.{adus, adusPerBlock, withinLimits}
 use Rattle.geometry.specs.declared.shape.Config.{Config}
 use Rattle.model.specs.declared.block.Way.the-variants.{Placement}
 use Rattle.model.specs.declared.table.Table.{Table}
 use Rattle.rules.proofs.Counting.{by-eq, length-row}
 use Rattle.rules.proofs.Writes.{none-written, onwards-zero}
 use Rattle.rules.specs.Blocks.{Written, chosenBlock, newBlocks, openedFor, roomIn, userAddress, userAddresses, writtenByPlacement, writtenFirst, writtenInto, writtenOnwards}
-use Rattle.rules.specs.Drive.{Drive, openBlock}
+use Rattle.rules.specs.Drive.{Drive, openBlock, overwritten}
 use Rattle.rules.specs.Questions.{userAddressesFit}
 use Rattle.placements.proofs.Users.{users-left, users-taken}
-use Rattle.placements.specs.Placing.{andThen, blocksIn, nothingWritten, oneStep, onwards, stepInto}
+use Rattle.placements.proofs.Words.{overwritten-two}
+use Rattle.placements.specs.Onwards.{GoesOn, blocksIn, nothingWritten, onwards, restWritten}
+use Rattle.placements.specs.declared.rest.Rest.{Rest}
 
 -- ---- The blocks that so many ADUs fill or begin
 
@@ -54,19 +56,16 @@ pub blocks-more : (c : Config) (count : ℕ) → 0 < adusPerBlock c .0 → 1 ≤
 unfolding blocksIn
 blocks-more c count l k = one-more (adusPerBlock c .0) count l k
 
--- What is left fills or begins no more blocks, ..
-pub left-serials : (c : Config) → withinLimits c ≡ true → (last count : ℕ)
-    → last + blocksIn c (count - min count (adusPerBlock c .0)) ≤ last + blocksIn c count
-left-serials c e last count = by-eq count 0
-    (λ z. let same : count - min count (adusPerBlock c .0) ≡ count = omega (arith, z) in rw same (omega arith))
-    (λ ne. omega (arith, blocks-more c count (some-adus c e) (omega (arith, ne))))
-
--- .. and one fewer where something is written.
+-- A serial more leaves enough for what is left.
 pub more-serials : (c : Config) → withinLimits c ≡ true → (last count new : ℕ) → ¬ (count ≡ 0) → new ≡ last + 1
     → new + blocksIn c (count - min count (adusPerBlock c .0)) ≤ last + blocksIn c count
 more-serials c e last count new ne is = omega (arith, is, blocks-more c count (some-adus c e) (omega (arith, ne)))
 
 -- ---- One step, and the rest
+
+-- A write, and then another of the user addresses that follow.
+abbrev pub andThen : Written → Written → Written
+andThen first rest = record { drive = rest .drive; addresses = first .addresses ++ rest .addresses }
 
 -- Nothing is left, ..
 pub onwards-none : (d p start : ℕ) (v : Drive) → 0 < adusPerBlock (v .table .config) .0 → onwards d p start 0 v ≡ nothingWritten v
@@ -86,93 +85,91 @@ onwards-more : (d p more n : ℕ) (users : List ℕ) (v : Drive) → chosenBlock
 unfolding writtenOnwards
 onwards-more d p more n users v e = rw e
 
+-- What the block that is chosen takes, once it is opened.
+abbrev pub intoNext : ℕ → ℕ → ℕ → ℕ → ℕ → Drive → Written
+intoNext d p n start count v = writtenInto d n (userAddresses start (min count (adusPerBlock (v .table .config) .0))) (openedFor d (Placement p) n v)
+
 -- Neither opening nor writing changes the configuration.
-step-config : (o : Option ℕ) (d p start count : ℕ) (v : Drive) → stepInto o d p start count v .drive .table .config ≡ v .table .config
+pub next-config : (d p n start count : ℕ) (v : Drive) → intoNext d p n start count v .drive .table .config ≡ v .table .config
 unfolding writtenInto openedFor
-step-config none d p start count v = refl
-step-config (some n) d p start count v = refl
+next-config d p n start count v = refl
 
--- Where nothing is written, nothing more is: the step and the rest are nothing.
-nothing-more : (d p start next count more : ℕ) (v : Drive) → oneStep d p start count v ≡ nothingWritten v
-    → onwards d p next more v ≡ nothingWritten v → andThen (oneStep d p start count v) (onwards d p next more (oneStep d p start count v .drive)) ≡ nothingWritten v
-nothing-more d p start next count more v e f =
-    ap (λ (w : Written). andThen w (onwards d p next more (w .drive))) e ∙ ap (andThen (nothingWritten v)) f
-
--- So it is one step, and the rest goes on.
-pub onwards-step : (d p start count : ℕ) (v : Drive) → 0 < adusPerBlock (v .table .config) .0 → userAddressesFit start count ≡ true
+-- So it is that block, and the rest goes on.
+onwards-next : (d p n start count : ℕ) (v : Drive) → 0 < adusPerBlock (v .table .config) .0 → userAddressesFit start count ≡ true
+    → chosenBlock (v .table) ≡ some n → ¬ (count ≡ 0)
     → let put = min count (adusPerBlock (v .table .config) .0) in
-    let first = oneStep d p start count v in
+    let first = intoNext d p n start count v in
     onwards d p start count v ≡ andThen first (onwards d p (userAddress start put) (count - put) (first .drive))
-unfolding oneStep
-onwards-step d p start count v l fit = by-eq count 0
-    (λ e.
-    let put = min count (adusPerBlock (v .table .config) .0) in
-    let z : count - put ≡ 0 = omega (arith, e) in
-    ap (λ (k : ℕ). onwards d p start k v) e ∙ onwards-none d p start v l
-    ∙ sym (nothing-more d p start (userAddress start put) count (count - put) v (rw (eq-eqb count 0 e))
-    (ap (λ (k : ℕ). onwards d p (userAddress start put) k v) z ∙ onwards-none d p (userAddress start put) v l)))
-    (λ ne. go (chosenBlock (v .table)) refl ne)
-  where
-    go : (o : Option ℕ) → chosenBlock (v .table) ≡ o → ¬ (count ≡ 0)
-        → onwards d p start count v
-        ≡ andThen (oneStep d p start count v)
-        (onwards d p (userAddress start (min count (adusPerBlock (v .table .config) .0))) (count - min count (adusPerBlock (v .table .config) .0))
-        (oneStep d p start count v .drive))
-    go none e ne =
-        let put = min count (adusPerBlock (v .table .config) .0) in
-        onwards-no-block d p start count v e
-        ∙ sym (nothing-more d p start (userAddress start put) count (count - put) v (rw (ne-eqb count 0 ne, e))
-        (onwards-no-block d p (userAddress start put) (count - put) v e))
-    go (some n) e ne =
-        let c = v .table .config in
-        let k = adusPerBlock c .0 in
-        let put = min count k in
-        let users = userAddresses start count in
-        let more = blocksIn c (count - put) in
-        let fresh = openedFor d (Placement p) n v in
-        let step = stepInto (some n) d p start count v in
-        let both : List ℕ → List ℕ → Written = λ these those.
-        andThen (writtenInto d n these fresh) (writtenOnwards d p more those (writtenInto d n these fresh .drive)) in
-        let same : blocksIn (step .drive .table .config) (count - put) ≡ more =
-        ap (λ (x : Config). blocksIn x (count - put)) (step-config (some n) d p start count v) in
-        let is-step : oneStep d p start count v ≡ step = rw (ne-eqb count 0 ne, e) in
-        ap (λ (j : ℕ). writtenOnwards d p j users v) (blocks-more c count l (omega (arith, ne)))
-        ∙ onwards-more d p more n users v e
-        ∙ ap (λ (these : List ℕ). both these (drop k users)) (users-taken start count k)
-        ∙ ap (λ (those : List ℕ). both (userAddresses start put) those) (users-left start count k fit)
-        ∙ ap (λ (j : ℕ). andThen step (writtenOnwards d p j (userAddresses (userAddress start put) (count - put)) (step .drive))) (sym same)
-        ∙ sym (ap (λ (w : Written). andThen w (onwards d p (userAddress start put) (count - put) (w .drive))) is-step)
+onwards-next d p n start count v l fit e ne =
+    let c = v .table .config in
+    let k = adusPerBlock c .0 in
+    let put = min count k in
+    let users = userAddresses start count in
+    let more = blocksIn c (count - put) in
+    let fresh = openedFor d (Placement p) n v in
+    let step = intoNext d p n start count v in
+    let both : List ℕ → List ℕ → Written = λ these those.
+    andThen (writtenInto d n these fresh) (writtenOnwards d p more those (writtenInto d n these fresh .drive)) in
+    let same : blocksIn (step .drive .table .config) (count - put) ≡ more =
+    ap (λ (x : Config). blocksIn x (count - put)) (next-config d p n start count v) in
+    ap (λ (j : ℕ). writtenOnwards d p j users v) (blocks-more c count l (omega (arith, ne)))
+    ∙ onwards-more d p more n users v e
+    ∙ ap (λ (these : List ℕ). both these (drop k users)) (users-taken start count k)
+    ∙ ap (λ (those : List ℕ). both (userAddresses start put) those) (users-left start count k fit)
+    ∙ ap (λ (j : ℕ). andThen step (writtenOnwards d p j (userAddresses (userAddress start put) (count - put)) (step .drive))) (sym same)
 
-pub one-config : (d p start count : ℕ) (v : Drive) → oneStep d p start count v .drive .table .config ≡ v .table .config
-unfolding oneStep
-one-config d p start count v = by-test (eqb count 0) (λ e. rw e) (λ e. rw e (step-config (chosenBlock (v .table)) d p start count v))
+-- ---- What is left
 
--- Two steps are all, where two blocks take all.
-pub onwards-two : (d p start count : ℕ) (v : Drive) → 0 < adusPerBlock (v .table .config) .0 → userAddressesFit start count ≡ true
-    → let perBlock = adusPerBlock (v .table .config) .0 in
-    let put = min count perBlock in
-    let first = oneStep d p start count v in
-    count - put ≤ perBlock
-    → userAddressesFit (userAddress start put) (count - put) ≡ true
-    → onwards d p start count v ≡ andThen first (oneStep d p (userAddress start put) (count - put) (first .drive))
-onwards-two d p start count v l fit few fit-rest =
-    let perBlock = adusPerBlock (v .table .config) .0 in
-    let put = min count perBlock in
-    let first = oneStep d p start count v in
-    let u = first .drive in
-    let next = userAddress start put in
-    let rest = count - put in
-    let same : u .table .config ≡ v .table .config = one-config d p start count v in
-    let room : 0 < adusPerBlock (u .table .config) .0 = rw same l in
-    let second = oneStep d p next rest u in
-    let put-two = min rest (adusPerBlock (u .table .config) .0) in
-    let none-left : rest - put-two ≡ 0 = subst (λ (c : Config). rest - min rest (adusPerBlock c .0) ≡ 0) (sym same) (omega (arith, few)) in
-    let same-two : second .drive .table .config ≡ u .table .config = one-config d p next rest u in
-    onwards-step d p start count v l fit
-    ∙ ap (andThen first) (onwards-step d p next rest u room fit-rest
-    ∙ ap (λ (k : ℕ). andThen second (onwards d p (userAddress next put-two) k (second .drive))) none-left
-    ∙ ap (andThen second) (onwards-none d p (userAddress next put-two) (second .drive) (rw same-two room))
-    ∙ ap (λ (row : List ℕ). record { drive = second .drive; addresses = row }) (append-nil (second .addresses)))
+-- It is written as the rules go on, also where nothing is left, ..
+pub rest-onwards : (d : ℕ) (r : Rest) (v : Drive) → 0 < adusPerBlock (v .table .config) .0
+    → restWritten d r v ≡ onwards d (r .placement) (r .start) (r .count .0) v
+rest-onwards d r v l = by-eq (r .count .0) 0
+    (λ z. rw (eq-eqb (r .count .0) 0 z)
+    (sym (ap (λ (k : ℕ). onwards d (r .placement) (r .start) k v) z ∙ onwards-none d (r .placement) (r .start) v l)))
+    (λ ne. rw (ne-eqb (r .count .0) 0 ne))
+
+-- .. and nothing is written where no block is Free.
+pub rest-none : (d : ℕ) (r : Rest) (v : Drive) → chosenBlock (v .table) ≡ none → restWritten d r v ≡ nothingWritten v
+rest-none d r v e = by-test (eqb (r .count .0) 0)
+    (λ z. rw z)
+    (λ z. rw z (onwards-no-block d (r .placement) (r .start) (r .count .0) v e))
+
+-- Nothing left is nothing written.
+pub rest-zero : (d : ℕ) (r : Rest) (v : Drive) → r .count .0 ≡ 0 → restWritten d r v ≡ nothingWritten v
+rest-zero d r v e = rw (eq-eqb (r .count .0) 0 e)
+
+-- What is left once a block has so many of it.
+abbrev pub restAfter : Rest → ℕ → Rest
+restAfter r put = record {
+  placement = r .placement;
+  start = userAddress (r .start) put;
+  count = adus (r .count .0 - put);
+  done = r .done + put;
+}
+
+-- The next block, and then what is left.
+pub goes-on : (d n : ℕ) (r : Rest) (v : Drive) (words : List ℕ)
+    → 0 < adusPerBlock (v .table .config) .0 → userAddressesFit (r .start) (r .count .0) ≡ true → r .done ≤ length words
+    → chosenBlock (v .table) ≡ some n → ¬ (r .count .0 ≡ 0)
+    → let put = min (r .count .0) (adusPerBlock (v .table .config) .0) in
+    let first = intoNext d (r .placement) n (r .start) (r .count .0) v in
+    length (first .addresses) ≡ put
+    → GoesOn d r v words (restAfter r put) (first .drive) (overwritten (r .done) (first .addresses) words)
+goes-on d n r v words l fit room e ne long w last went =
+    let put = min (r .count .0) (adusPerBlock (v .table .config) .0) in
+    let first = intoNext d (r .placement) n (r .start) (r .count .0) v in
+    let after = restAfter r put in
+    let rest = onwards d (r .placement) (userAddress (r .start) put) (r .count .0 - put) (first .drive) in
+    let all : restWritten d r v ≡ andThen first rest =
+    rest-onwards d r v l ∙ onwards-next d (r .placement) n (r .start) (r .count .0) v l fit e ne in
+    let is-rest : restWritten d after (first .drive) ≡ rest = rest-onwards d after (first .drive) (rw (next-config d (r .placement) n (r .start) (r .count .0) v) l) in
+    record {
+      leaves = went .leaves ∙ ap (λ (x : Written). x .drive) is-rest ∙ ap (λ (x : Written). x .drive) (sym all);
+      fills = went .fills
+          ∙ ap (λ (x : Written). overwritten (r .done + put) (x .addresses) (overwritten (r .done) (first .addresses) words)) is-rest
+          ∙ overwritten-two (r .done) (r .done + put) (first .addresses) (rest .addresses) words room (omega (arith, long))
+          ∙ ap (λ (x : Written). overwritten (r .done) (x .addresses) words) (sym all);
+    }
 
 -- ---- The placement's open block first
 
@@ -189,7 +186,7 @@ placed-is : (d p : ℕ) (users : List ℕ) (v : Drive) (found : Option ℕ) → 
 unfolding writtenByPlacement newBlocks blocksIn
 placed-is d p users v found e = rw e
 
-first-config : (d : ℕ) (found : Option ℕ) (users : List ℕ) (v : Drive) → writtenFirst d found users v .drive .table .config ≡ v .table .config
+pub first-config : (d : ℕ) (found : Option ℕ) (users : List ℕ) (v : Drive) → writtenFirst d found users v .drive .table .config ≡ v .table .config
 unfolding writtenInto
 first-config d none users v = refl
 first-config d (some n) users v = refl

@@ -1,28 +1,32 @@
--- Two writes, one behind the other: the words that the second is lent are those behind the first's.
-use Prim.Native.Nat.{ℕ, _+_, _-_}
+-- Words that are filled one stretch behind the other.
+use Prim.Native.Nat.{ℕ, _+_, _-_, _≤_}
 use mathlib.Core.List.{List, _++_, append-assoc, append-nil}
-use mathlib.Core.Path.{_≡_, sym, ap, subst, _∙_}
+use mathlib.Core.Path.{_≡_, sym, ap, _∙_}
 use native.Mathlib.Omega.{arith}
-use lib.ListN.{drop, drop-of-length-le, length, length-append, length-drop, take, take-append-drop}
+use lib.ListN.{drop, drop-of-length-le, length, length-append, length-drop, length-take, take}
 use lib.Seq.{drop-append-seam, drop-drop, take-all, take-append-seam}
-use Rattle.rules.specs.Blocks.{Written}
-use Rattle.rules.specs.Drive.{Drive, overwritten}
-use Rattle.placements.specs.Placing.{andThen}
-use Rattle.transfers.specs.Transfers.{Wrote}
+use Rattle.rules.specs.Drive.{overwritten}
 
--- Two rows of flash addresses, one behind the other, into the words.
-words-two : (these those words : List ℕ)
-    → overwritten 0 (these ++ those) words
-    ≡ take (length these) (overwritten 0 these words) ++ overwritten 0 those (drop (length these) (overwritten 0 these words))
+-- A stretch and another right behind it are one.
+pub overwritten-two : (at next : ℕ) (these those row : List ℕ) → at ≤ length row → next ≡ at + length these
+    → overwritten next those (overwritten at these row) ≡ overwritten at (these ++ those) row
 unfolding overwritten
-words-two these those words =
-    rw (
-      take-append-seam these (drop (length these) words),
-      drop-append-seam these (drop (length these) words),
-      drop-drop (length those) (length these) words,
-      length-append these those,
-    )
-    (append-assoc these those (drop (length these + length those) words))
+overwritten-two at next these those row l is =
+    let front = take at row in
+    let end = drop (length these) (drop at row) in
+    let long : length (front ++ these) ≡ next = rw (length-append front these, length-take at row) (omega (arith, l, is)) in
+    let joined : front ++ (these ++ end) ≡ (front ++ these) ++ end = sym (append-assoc front these end) in
+    let taken : take next (front ++ (these ++ end)) ≡ front ++ these =
+    ap (take next) joined ∙ ap (λ (k : ℕ). take k ((front ++ these) ++ end)) (sym long) ∙ take-append-seam (front ++ these) end in
+    let dropped : drop next (front ++ (these ++ end)) ≡ end =
+    ap (drop next) joined ∙ ap (λ (k : ℕ). drop k ((front ++ these) ++ end)) (sym long) ∙ drop-append-seam (front ++ these) end in
+    let further : drop (length those) end ≡ drop (length (these ++ those)) (drop at row) =
+    drop-drop (length those) (length these) (drop at row) ∙ ap (λ (k : ℕ). drop k (drop at row)) (sym (length-append these those)) in
+    ap (λ (x : List ℕ). x ++ (those ++ drop (length those) (drop next (front ++ (these ++ end))))) taken
+    ∙ ap (λ (x : List ℕ). (front ++ these) ++ (those ++ drop (length those) x)) dropped
+    ∙ ap (λ (x : List ℕ). (front ++ these) ++ (those ++ x)) further
+    ∙ append-assoc front these (those ++ drop (length (these ++ those)) (drop at row))
+    ∙ ap (λ (x : List ℕ). front ++ x) (sym (append-assoc these those (drop (length (these ++ those)) (drop at row))))
 
 -- The words behind the first k, as they are lent on, and all of them with what those then hold.
 abbrev pub behind : ℕ → List ℕ → List ℕ
@@ -42,26 +46,13 @@ rejoined-all k row part =
 pub behind-long : (k : ℕ) (row : List ℕ) → length (behind k row) ≡ length row - k
 behind-long k row = ap (λ (r : List ℕ). length r) (behind-all k row) ∙ length-drop k row
 
--- With what they were, they are as they were.
-pub rejoined-same : (k : ℕ) (row : List ℕ) → rejoined k row (behind k row) ≡ row
-rejoined-same k row = rejoined-all k row (behind k row) ∙ ap (λ (part : List ℕ). take k row ++ part) (behind-all k row) ∙ take-append-drop k row
+pub rejoined-long : (k : ℕ) (row part : List ℕ) → k ≤ length row → length part ≡ length (behind k row) → length (rejoined k row part) ≡ length row
+rejoined-long k row part l e =
+    ap (λ (r : List ℕ). length r) (rejoined-all k row part) ∙ length-append (take k row) part
+    ∙ rw (length-take k row) (omega (arith, l, e, behind-long k row))
 
--- A write, and then another into them, is both.
-pub wrote-then : (first rest : Written) (words filled : List ℕ) (k : ℕ) (r : Drive) (part : List ℕ)
-    → filled ≡ overwritten 0 (first .addresses) words → length (first .addresses) ≡ k
-    → Wrote rest (behind k filled) r part → Wrote (andThen first rest) words r (rejoined k filled part)
-wrote-then first rest words filled k r part e long w =
-    let these = first .addresses in
-    let those = rest .addresses in
-    record {
-      leaves = w .leaves;
-      fills =
-          rejoined-all k filled part
-          ∙ ap (λ (row : List ℕ). take k filled ++ row) (w .fills ∙ ap (overwritten 0 those) (behind-all k filled))
-          ∙ ap (λ (row : List ℕ). take k row ++ overwritten 0 those (drop k row)) e
-          ∙ subst
-          (λ (n : ℕ). take n (overwritten 0 these words) ++ overwritten 0 those (drop n (overwritten 0 these words))
-          ≡ overwritten 0 (these ++ those) words)
-          long
-          (sym (words-two these those words));
-    }
+-- Filling them from their first on is filling all from k on.
+pub behind-filled : (k : ℕ) (new row part : List ℕ) → part ≡ overwritten 0 new (behind k row) → rejoined k row part ≡ overwritten k new row
+unfolding overwritten
+behind-filled k new row part e =
+    rejoined-all k row part ∙ ap (λ (x : List ℕ). take k row ++ x) (e ∙ ap (λ (x : List ℕ). new ++ drop (length new) x) (behind-all k row))

@@ -9,7 +9,8 @@ use Rattle.geometry.specs.Shape.{storeLength}
 use Rattle.geometry.specs.declared.shape.Adus.{Adus}
 use Rattle.model.specs.declared.table.Domain.{Domain}
 use Rattle.model.specs.declared.table.Table.{Table}
-use Rattle.placements.specs.Placing.{blocksIn, roomSeen}
+use Rattle.placements.specs.Onwards.{blocksIn}
+use Rattle.placements.specs.Placing.{roomSeen}
 use Rattle.rules.specs.Questions.{isCount, userAddressesFit}
 use Rattle.survey.specs.declared.sight.Found.{Found}
 use Rattle.survey.specs.declared.sight.Found.the-variants as found

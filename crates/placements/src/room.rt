@@ -8,7 +8,8 @@ ghost use mathlib.Core.Bool.{true};
 ghost use mathlib.Core.Path.{_≡_};
 ghost use Prim.Native.Nat.{_-_, _≤_, min};
 ghost use Rattle.geometry.specs.Shape.{withinLimits};
-ghost use Rattle.placements.specs.Placing.{blocksIn, roomSeen};
+ghost use Rattle.placements.specs.Onwards.{blocksIn};
+ghost use Rattle.placements.specs.Placing.{roomSeen};
 
 // What is left of a number of ADUs without so many.
 pub(crate) fn without(count: Adus, some: Adus) -> Adus

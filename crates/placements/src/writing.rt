@@ -1,17 +1,17 @@
 // Write by placement.
 use crate::placing::placed;
+use crate::rest::Partial;
+use crate::rest::complete;
 use crate::room::blocks_for;
 use crate::room::room_in;
 use crate::room::without;
 use blocks::new_blocks_verdict;
 use buffers::user_addresses_fit;
 use geometry::Adus;
-use model::Answer;
 use model::Refusal;
 use survey::Found;
 use survey::Sight;
 use survey::store_verdict;
-use tables::Outcome;
 use tables::Verdict;
 use tables::ask;
 use tables::is_count;
@@ -21,16 +21,16 @@ ghost use mathlib.Core.Bool.{true};
 ghost use mathlib.Core.List.{List, _++_};
 ghost use mathlib.Core.Path.{_≡_};
 ghost use Prim.Native.Nat.{ℕ};
+ghost use lib.ListN.{length};
 ghost use Rattle.geometry.specs.Address.{isDomainId};
 ghost use Rattle.geometry.specs.Questions.{firstNo};
 ghost use Rattle.geometry.specs.Shape.{withinLimits};
 ghost use Rattle.model.specs.declared.command.Command.the-variants.{WriteByPlacement};
 ghost use Rattle.model.specs.declared.table.Table.{Table};
 ghost use Rattle.placements.specs.Asking.{mayOpenSeen, placementArguments, placementState};
+ghost use Rattle.placements.specs.Onwards.{Finishes, MayFinish};
 ghost use Rattle.rules.specs.Questions.{isCount};
-ghost use Rattle.survey.specs.Sight.{Seen, Sees, SeesChoice, SeesPlacement};
-ghost use Rattle.tables.specs.Changing.{outcomeServed};
-ghost use Rattle.tables.specs.Serving.{ServesCommand, served};
+ghost use Rattle.survey.specs.Sight.{Seen, Sees, SeesPlacement};
 ghost use Rattle.tables.specs.Verdicts.{verdictNumber};
 
 // 3 to 7.
@@ -96,8 +96,8 @@ fn placement_verdict(
     }
 }
 
-// User addresses into the placement's open block and, while ADUs remain, into others that are opened
-// for it; their flash addresses into the words.
+// User addresses into the placement's open block; what is left of them goes into others that are opened for it. The flash addresses
+// go into the words.
 pub fn write_by_placement(
     sight: Sight,
     domain: u64,
@@ -106,12 +106,12 @@ pub fn write_by_placement(
     count: Adus,
     store: &mut [u64],
     words: &mut [u64],
-) -> Outcome
-    requires { ⌜ ((t : Table) × Sees t domain sight × SeesPlacement t domain placement sight × SeesChoice t sight) ⌝ }
-    ensures { λ r. ⌜ ((t : Table) (bytes : List ℕ) → Sees t domain sight → SeesPlacement t domain placement sight → SeesChoice t sight → ServesCommand t (WriteByPlacement domain placement start count) (now (store .entry)) (now (words .entry)) bytes (served (outcomeServed t r) (now (store .exit)) (now (words .exit)) bytes)) ⌝ }
+) -> Partial
+    requires { ⌜ ((t : Table) × Sees t domain sight × SeesPlacement t domain placement sight) ⌝ }
+    ensures { λ r. ⌜ MayFinish (sight .config) (length (now (store .exit))) (length (now (words .exit))) r × ((t : Table) (bytes : List ℕ) → Sees t domain sight → SeesPlacement t domain placement sight → Finishes t (WriteByPlacement domain placement start count) (now (store .entry)) (now (words .entry)) bytes r (now (store .exit)) (now (words .exit)) bytes) ⌝ }
 {
     if !sight.sound {
-        return refusal(Refusal::Unsound);
+        return complete(refusal(Refusal::Unsound));
     }
     match placement_verdict(
         sight,
@@ -122,14 +122,10 @@ pub fn write_by_placement(
         store.len(),
         words.len(),
     ) {
-        Verdict::No(reason) => refusal(reason),
+        Verdict::No(reason) => complete(refusal(reason)),
         Verdict::Pass => {
             let p = placement as u8;
-            let change = placed(sight, domain, p, start, count, store, words);
-            Outcome {
-                answer: Answer::Done,
-                change,
-            }
+            placed(sight, domain, p, start, count, store, words)
         }
     }
 }

@@ -22,7 +22,7 @@ use Rattle.rules.specs.Drive.{blockAt, clearBlock, heldBy, heldCount, size, wit
 use Rattle.rules.specs.Soundness.{sound}
 use Rattle.survey.specs.Sight.{Sees}
 use Rattle.survey.specs.declared.sight.Sight.{Sight}
-use Rattle.tables.specs.Changing.{blockChange, changedBlocks, changedBy, changedDomains, deletionOf, domainChange, noBlock, noChange, openingChange, presentBlocks, pulseChange}
+use Rattle.tables.specs.Changing.{blockChange, changedBlocks, changedBy, deletionOf, domainChange, noBlock, noChange, openingChange, presentBlocks, pulseChange, withOwner}
 
 -- ---- Limits
 
@@ -71,52 +71,49 @@ few-records t =
 none-put : (bs : List Block) (b : Block) → length bs ≤ 256 → set bs noBlock b ≡ bs
 none-put bs b l = set-out bs noBlock b (omega (arith, l))
 
-put-first : (bs : List Block) (n : ℕ) (b : Block) → length bs ≤ 256
-    → set (set (set bs n b) noBlock clearBlock) noBlock clearBlock ≡ set bs n b
-put-first bs n b l =
-    let small : length (set bs n b) ≤ 256 = rw (length-set bs n b) l in
-    ap (λ (xs : List Block). set xs noBlock clearBlock) (none-put (set bs n b) clearBlock small) ∙ none-put (set bs n b) clearBlock small
-
 -- Nothing is changed, ..
 pub changed-nothing : (t : Table) → changedBy noChange t ≡ t
-unfolding changedBlocks changedDomains
+unfolding changedBlocks withOwner
 changed-nothing t =
     let bs = take (presentBlocks (t .config)) (t .blocks) in
-    rw (put-first bs noBlock clearBlock (few-records t), none-put bs clearBlock (few-records t), take-append-drop (presentBlocks (t .config)) (t .blocks))
+    rw (none-put bs clearBlock (few-records t), take-append-drop (presentBlocks (t .config)) (t .blocks))
 
 -- .. a block's record and a domain's, ..
 pub changed-opening : (t : Table) (n : ℕ) (b : Block) (d : ℕ) (r : Domain) → withinLimits (t .config) ≡ true → n < size t → ¬ (d ≡ 0)
     → changedBy (openingChange n b d r) t ≡ withDomain d r (withBlock n b t)
-unfolding changedBlocks changedDomains
+unfolding changedBlocks withOwner
 changed-opening t n b d r e l ne =
     let bs = take (presentBlocks (t .config)) (t .blocks) in
-    rw (put-first bs n b (few-records t), ne-eqb d 0 ne, set-beyond (presentBlocks (t .config)) (t .blocks) n b (rw e l))
+    rw (ne-eqb d 0 ne, set-beyond (presentBlocks (t .config)) (t .blocks) n b (rw e l))
 
 -- .. a block's alone, ..
 pub changed-block : (t : Table) (n : ℕ) (b : Block) → withinLimits (t .config) ≡ true → n < size t
     → changedBy (blockChange n b) t ≡ withBlock n b t
-unfolding changedBlocks changedDomains
+unfolding changedBlocks withOwner
 changed-block t n b e l =
     let bs = take (presentBlocks (t .config)) (t .blocks) in
-    rw (put-first bs n b (few-records t), set-beyond (presentBlocks (t .config)) (t .blocks) n b (rw e l))
+    rw (set-beyond (presentBlocks (t .config)) (t .blocks) n b (rw e l))
 
 -- .. a domain's alone, ..
-pub changed-domain : (t : Table) (d : ℕ) (r : Domain) → ¬ (d ≡ 0) → changedBy (domainChange d r) t ≡ withDomain d r t
-unfolding changedBlocks changedDomains
-changed-domain t d r ne =
+pub changed-owner : (t : Table) (b : Block) (d : ℕ) (r : Domain) → ¬ (d ≡ 0) → changedBy (openingChange noBlock b d r) t ≡ withDomain d r t
+unfolding changedBlocks withOwner
+changed-owner t b d r ne =
     let bs = take (presentBlocks (t .config)) (t .blocks) in
-    rw (put-first bs noBlock clearBlock (few-records t), none-put bs clearBlock (few-records t), ne-eqb d 0 ne, take-append-drop (presentBlocks (t .config)) (t .blocks))
+    rw (none-put bs b (few-records t), ne-eqb d 0 ne, take-append-drop (presentBlocks (t .config)) (t .blocks))
+
+pub changed-domain : (t : Table) (d : ℕ) (r : Domain) → ¬ (d ≡ 0) → changedBy (domainChange d r) t ≡ withDomain d r t
+changed-domain t d r ne = changed-owner t clearBlock d r ne
 
 -- .. all blocks of a domain, ..
 pub changed-deletion : (t : Table) (d : ℕ) → withinLimits (t .config) ≡ true → ¬ (d ≡ 0) → changedBy (deletionOf d) t ≡ deletedDomain d t
-unfolding changedBlocks changedDomains deletedDomain
+unfolding changedBlocks withOwner deletedDomain
 changed-deletion t d e ne =
     let bs = take (presentBlocks (t .config)) (t .blocks) in
-    rw (put-first bs noBlock clearBlock (few-records t), none-put bs clearBlock (few-records t), ne-eqb d 0 ne, e)
+    rw (none-put bs clearBlock (few-records t), ne-eqb d 0 ne, e)
 
 -- .. and every open block.
 pub changed-pulse : (t : Table) (seconds : ℕ) → withinLimits (t .config) ≡ true → changedBy (pulseChange seconds) t ≡ pulsed seconds t
-unfolding changedBlocks changedDomains
+unfolding changedBlocks withOwner
 changed-pulse t seconds e =
     let bs = take (presentBlocks (t .config)) (t .blocks) in
-    rw (put-first bs noBlock clearBlock (few-records t), none-put bs clearBlock (few-records t), e)
+    rw (none-put bs clearBlock (few-records t), e)

@@ -26,14 +26,10 @@ noBlock = 4294967295
 
 abbrev pub noChange : Change
 noChange = record {
-  first = noBlock;
-  one = clearBlock;
-  second = noBlock;
-  two = clearBlock;
-  third = noBlock;
-  three = clearBlock;
+  number = noBlock;
+  block = clearBlock;
   domain = 0;
-  changed = clearDomain;
+  owner = clearDomain;
   pulses = false;
   seconds = 0;
   frees = false;
@@ -46,14 +42,10 @@ leaving answer = record { answer = answer; change = noChange }
 -- A block's new record and a domain's, ..
 abbrev pub openingChange : ℕ → Block → ℕ → Domain → Change
 openingChange n b d r = record {
-  first = n;
-  one = b;
-  second = noBlock;
-  two = clearBlock;
-  third = noBlock;
-  three = clearBlock;
+  number = n;
+  block = b;
   domain = d;
-  changed = r;
+  owner = r;
   pulses = false;
   seconds = 0;
   frees = false;
@@ -69,14 +61,10 @@ domainChange d r = openingChange noBlock clearBlock d r
 -- A domain's blocks are freed and its record is cleared.
 abbrev pub deletionOf : ℕ → Change
 deletionOf d = record {
-  first = noBlock;
-  one = clearBlock;
-  second = noBlock;
-  two = clearBlock;
-  third = noBlock;
-  three = clearBlock;
+  number = noBlock;
+  block = clearBlock;
   domain = d;
-  changed = clearDomain;
+  owner = clearDomain;
   pulses = false;
   seconds = 0;
   frees = true;
@@ -85,14 +73,10 @@ deletionOf d = record {
 -- Seconds pass for every open block.
 abbrev pub pulseChange : ℕ → Change
 pulseChange seconds = record {
-  first = noBlock;
-  one = clearBlock;
-  second = noBlock;
-  two = clearBlock;
-  third = noBlock;
-  three = clearBlock;
+  number = noBlock;
+  block = clearBlock;
   domain = 0;
-  changed = clearDomain;
+  owner = clearDomain;
   pulses = true;
   seconds = seconds;
   frees = false;
@@ -100,34 +84,33 @@ pulseChange seconds = record {
 
 -- ---- What they do
 
--- The blocks that it names get their records; ..
-abbrev pub putBlocks : Change → List Block → List Block
-putBlocks c bs = set (set (set bs (c .first) (c .one)) (c .second) (c .two)) (c .third) (c .three)
-
--- .. then seconds pass for every open block, if they do, and the domain's blocks are freed, if they are.
+-- The block that it names gets its record; then seconds pass for every open block, if they do, and the domain's blocks are freed, if they
+-- are.
 unfoldable pub changedBlocks : Change → List Block → List Block
 changedBlocks c bs =
-    let put = putBlocks c bs in
+    let put = set bs (c .number) (c .block) in
     let pulsed = cond (c .pulses) (map (countedDown (c .seconds)) put) put in
     cond (c .frees) (map (freedIfHeld (c .domain)) pulsed) pulsed
 
--- Domain 0 is none.
-unfoldable pub changedDomains : Change → List Domain → List Domain
-changedDomains c ds = cond (eqb (c .domain) 0) ds (set ds (c .domain - 1) (c .changed))
+-- The domains with a new record of domain d; domain 0 is none.
+unfoldable pub withOwner : ℕ → Domain → List Domain → List Domain
+withOwner d r ds = cond (eqb d 0) ds (set ds (d - 1) r)
 
 -- How many blocks the drive has; none outside the limits.
 abbrev pub presentBlocks : Config → ℕ
 presentBlocks c = cond (withinLimits c) (c .blocks) 0
 
+-- A table with these records of the drive's blocks, and this one of domain d.
+abbrev pub tableWith : List Block → ℕ → Domain → Table → Table
+tableWith bs d r t = record {
+  config = t .config;
+  domains = withOwner d r (t .domains);
+  blocks = bs ++ drop (presentBlocks (t .config)) (t .blocks);
+}
+
 -- A table with a command's change made in it.
 abbrev pub changedBy : Change → Table → Table
-changedBy change t =
-    let n = presentBlocks (t .config) in
-    record {
-      config = t .config;
-      domains = changedDomains change (t .domains);
-      blocks = changedBlocks change (take n (t .blocks)) ++ drop n (t .blocks);
-    }
+changedBy change t = tableWith (changedBlocks change (take (presentBlocks (t .config)) (t .blocks))) (change .domain) (change .owner) t
 
 -- What a command that changes the table so hands back.
 abbrev pub outcomeServed : Table → Outcome → Served

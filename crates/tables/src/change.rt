@@ -9,17 +9,13 @@ ghost use mathlib.Core.Path.{_≡_};
 ghost use Rattle.model.specs.declared.answer.Answer.the-variants.{Refused};
 ghost use Rattle.tables.specs.Changing.{blockChange, deletionOf, domainChange, leaving, noChange, openingChange, pulseChange};
 
-// The new records of up to three blocks and of a domain; a number of none changes none. Or of every
-// block: seconds pass, or those that the domain holds are freed.
+// The new records of a block and of a domain; a number of none changes none. Or of every block: seconds pass, or those that the
+// domain holds are freed.
 pub struct Change {
-    pub first: u64,
-    pub one: Block,
-    pub second: u64,
-    pub two: Block,
-    pub third: u64,
-    pub three: Block,
+    pub number: u64,
+    pub block: Block,
     pub domain: u64,
-    pub changed: Domain,
+    pub owner: Domain,
     pub pulses: bool,
     pub seconds: u32,
     pub frees: bool,
@@ -38,14 +34,10 @@ fn nothing() -> Change
     ensures { λ r. ⌜ r ≡ noChange ⌝ }
 {
     Change {
-        first: NO_BLOCK,
-        one: clear_block(),
-        second: NO_BLOCK,
-        two: clear_block(),
-        third: NO_BLOCK,
-        three: clear_block(),
+        number: NO_BLOCK,
+        block: clear_block(),
         domain: 0,
-        changed: clear_domain(),
+        owner: clear_domain(),
         pulses: false,
         seconds: 0,
         frees: false,
@@ -74,8 +66,8 @@ pub fn block_change(n: u64, block: Block) -> Change
     ensures { λ r. ⌜ r ≡ blockChange n block ⌝ }
 {
     let mut change = nothing();
-    change.first = n;
-    change.one = block;
+    change.number = n;
+    change.block = block;
     change
 }
 
@@ -85,7 +77,7 @@ pub fn domain_change(domain: u64, new: Domain) -> Change
 {
     let mut change = nothing();
     change.domain = domain;
-    change.changed = new;
+    change.owner = new;
     change
 }
 
@@ -95,7 +87,7 @@ pub fn opening_change(n: u64, block: Block, domain: u64, new: Domain) -> Change
 {
     let mut change = block_change(n, block);
     change.domain = domain;
-    change.changed = new;
+    change.owner = new;
     change
 }
 

@@ -6,7 +6,7 @@ use native.Mathlib.Omega.{arith}
 use borrow.Author.Needs.{needs}
 use Rattle.geometry.proofs.Laws.Shape.{limits}
 use Rattle.geometry.specs.Shape.{adusPerBlock}
-use Rattle.placements.specs.Placing.{blocksIn}
+use Rattle.placements.specs.Onwards.{blocksIn}
 use Rattle.placements.proofs.room.blocks_for.Statement.{statement}
 use Rattle.placements.proofs.room.blocks_for.Tie as tie
 

@@ -8,7 +8,8 @@ use Rattle.geometry.proofs.Laws.Questions.{positive}
 use Rattle.geometry.proofs.Laws.Shape.{is-between}
 use Rattle.geometry.specs.Questions.{ask, firstNo}
 use Rattle.placements.specs.Asking.{mayOpenSeen, placementState}
-use Rattle.placements.specs.Placing.{blocksIn, roomSeen}
+use Rattle.placements.specs.Onwards.{blocksIn}
+use Rattle.placements.specs.Placing.{roomSeen}
 use Rattle.rules.specs.Questions.{userAddressesFit}
 use Rattle.survey.proofs.Seeing.{limits-seen}
 use Rattle.tables.proofs.Answering.{chain, first-append, one-by-one}
