@@ -1,8 +1,12 @@
 // What is read and changed in lent slices of block records: each function walks them and calls what is
 // proved of one record.
 use countdown::count_down;
+use geometry::Config;
 use model::Block;
 use model::Domain;
+use placements::Rest;
+use placements::fill_next;
+use placements::nothing_left;
 use survey::Candidates;
 use survey::Subject;
 use survey::chain_before;
@@ -15,13 +19,14 @@ use survey::same_serial;
 use survey::scan_block;
 use tables::Change;
 use tables::clear_block;
-ghost use Prim.Native.Nat.{_≤_};
+ghost use Prim.Native.Nat.{_<_, _≤_};
 ghost use mathlib.Core.List.{map};
 ghost use mathlib.Core.Path.{_≡_};
 ghost use lib.ListN.{getD, length, set, take};
 ghost use Rattle.rules.specs.Domains.{freedIfHeld};
 ghost use Rattle.rules.specs.Drive.{clearBlock};
-ghost use Rattle.tables.specs.Changing.{changedBlocks};
+ghost use Rattle.placements.specs.Onwards.{MayGoOn, OpenedNext, WrittenOn};
+ghost use Rattle.tables.specs.Changing.{changedBlocks, presentBlocks};
 ghost use Rattle.survey.specs.Marks.{markCount};
 ghost use Rattle.survey.specs.Free.{Chosen, noCandidates};
 ghost use Rattle.survey.specs.Listing.{listedFrom};
@@ -150,16 +155,75 @@ pub fn free_held(blocks: &mut [Block], domain: u64)
 pub fn change_blocks(blocks: &mut [Block], change: Change)
     ensures { λ _. ⌜ now (blocks .exit) ≡ changedBlocks change (now (blocks .entry)) ⌝ }
 {
-    let first = change.one;
-    put_block(blocks, change.first, first);
-    let second = change.two;
-    put_block(blocks, change.second, second);
-    let third = change.three;
-    put_block(blocks, change.third, third);
+    let block = change.block;
+    put_block(blocks, change.number, block);
     if change.pulses {
         count_down(blocks, change.seconds);
     }
     if change.frees {
         free_held(blocks, change.domain);
     }
+}
+
+// What is left to write after a block more, and its owner's record.
+struct Progress {
+    pub owner: Domain,
+    pub rest: Rest,
+}
+
+// The Free block to be opened next is opened for what is left of a write, and takes what fits it. Where no block is Free, nothing is left.
+fn open_next(
+    blocks: &mut [Block],
+    config: Config,
+    domain: u64,
+    owner: Domain,
+    rest: Rest,
+    store: &mut [u64],
+    words: &mut [u64],
+) -> Progress
+    requires { ⌜ MayGoOn config (length (now store)) (length (now words)) domain owner rest × (¬ (rest .count .0 ≡ 0)) × (length (now blocks) ≡ config .blocks) ⌝ }
+    ensures { λ r. ⌜ (r .rest .count .0 < rest .count .0) × (¬ (r .rest .count .0 ≡ 0) → MayGoOn config (length (now (store .exit))) (length (now (words .exit))) domain (r .owner) (r .rest)) × OpenedNext config domain rest (now (blocks .entry)) owner (now (store .entry)) (now (words .entry)) (r .rest) (now (blocks .exit)) (r .owner) (now (store .exit)) (now (words .exit)) ⌝ }
+{
+    let best = choose_free(blocks, blocks.len());
+    let n = best.number;
+    if n < blocks.len() as u64 {
+        let at = n as usize;
+        let block = blocks[at];
+        let filled = fill_next(config, domain, owner, rest, n, block, store, words);
+        let new = filled.block;
+        blocks[at] = new;
+        let after = filled.owner;
+        let left = filled.rest;
+        return Progress {
+            owner: after,
+            rest: left,
+        };
+    }
+    Progress {
+        owner,
+        rest: nothing_left(),
+    }
+}
+
+// What is left of a write goes into blocks that are opened for it, one after the other: the owner's record afterwards.
+pub fn write_onwards(
+    blocks: &mut [Block],
+    config: Config,
+    domain: u64,
+    owner: Domain,
+    rest: Rest,
+    store: &mut [u64],
+    words: &mut [u64],
+) -> Domain
+    requires { ⌜ (¬ (rest .count .0 ≡ 0) → MayGoOn config (length (now store)) (length (now words)) domain owner rest) × (length (now blocks) ≡ presentBlocks config) ⌝ }
+    ensures { λ r. ⌜ WrittenOn config domain rest (now (blocks .entry)) owner (now (store .entry)) (now (words .entry)) (now (blocks .exit)) r (now (store .exit)) (now (words .exit)) ⌝ }
+{
+    let mut new = owner;
+    let mut left = rest;
+    while 0 < left.count.0 {
+        let next = open_next(blocks, config, domain, new, left, store, words);
+        new = next.owner;
+        left = next.rest;
+    }
+    new
 }

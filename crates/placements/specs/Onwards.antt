@@ -4,9 +4,11 @@ use mathlib.Core.Bool.{true, cond}
 use mathlib.Core.List.{List, []}
 use mathlib.Core.Path.{_≡_}
 use lib.Dec.{eqb}
+use lib.ListN.{length}
 use Rattle.geometry.specs.Address.{isDomainId}
 use Rattle.geometry.specs.Shape.{adus, adusPerBlock, storeLength, withinLimits}
 use Rattle.geometry.specs.declared.shape.Config.{Config}
+use Rattle.model.specs.declared.block.Block.{Block}
 use Rattle.model.specs.declared.command.Command.{Command}
 use Rattle.model.specs.declared.table.Domain.{Domain}
 use Rattle.model.specs.declared.table.Table.{Table}
@@ -15,7 +17,7 @@ use Rattle.placements.specs.declared.rest.Rest.{Rest}
 use Rattle.rules.specs.Blocks.{Written, userAddresses, writtenOnwards}
 use Rattle.rules.specs.Drive.{Drive, overwritten}
 use Rattle.rules.specs.Questions.{userAddressesFit}
-use Rattle.tables.specs.Changing.{changedBy}
+use Rattle.tables.specs.Changing.{changedBy, tableWith}
 use Rattle.tables.specs.Serving.{ServesCommand, answering, drive, served}
 use Rattle.tables.specs.declared.change.Outcome.{Outcome}
 
@@ -60,6 +62,20 @@ pub record MayGoOn (c : Config) (entries room d : ℕ) (owner : Domain) (r : Res
   pub serials : owner .last + blocksIn c (r .count .0) ≤ 4294967295
   pub fit : userAddressesFit (r .start) (r .count .0) ≡ true
   pub enough : r .done + r .count .0 ≤ room
+
+-- ---- Over the records of the drive's blocks and of the owner, in whatever table they stand
+
+-- One block more, ..
+abbrev pub OpenedNext : Config → ℕ → Rest → List Block → Domain → List ℕ → List ℕ → Rest → List Block → Domain → List ℕ → List ℕ → Type 0
+OpenedNext c d r bs owner store words r′ bs′ owner′ store′ words′ =
+    (t : Table) → t .config ≡ c → length (t .domains) ≡ 16
+    → GoesOn d r (drive (tableWith bs d owner t) store) words r′ (drive (tableWith bs′ d owner′ t) store′) words′
+
+-- .. and all that is left.
+abbrev pub WrittenOn : Config → ℕ → Rest → List Block → Domain → List ℕ → List ℕ → List Block → Domain → List ℕ → List ℕ → Type 0
+WrittenOn c d r bs owner store words bs′ owner′ store′ words′ =
+    (t : Table) → t .config ≡ c → length (t .domains) ≡ 16
+    → WentOn d r (drive (tableWith bs d owner t) store) words (drive (tableWith bs′ d owner′ t) store′) words′
 
 -- ---- What a command hands back
 

@@ -10,4 +10,5 @@ pub use filling::fill_next;
 pub use rest::Partial;
 pub use rest::Rest;
 pub use rest::complete;
+pub use rest::nothing_left;
 pub use writing::write_by_placement;

@@ -19,7 +19,7 @@ pub struct Partial {
     pub rest: Rest,
 }
 
-fn nothing_left() -> Rest
+pub fn nothing_left() -> Rest
     ensures { λ r. ⌜ r ≡ nothingLeft ⌝ }
 {
     Rest {

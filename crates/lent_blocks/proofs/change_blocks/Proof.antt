@@ -54,7 +54,7 @@ use Rattle.rules.specs.Domains.{freedIfHeld}
 use Rattle.countdown.proofs.count_down as count
 use Rattle.countdown.proofs.count_down.Met as count-met
 use Rattle.countdown.proofs.count_down.Symbol as count-symbol
-use Rattle.tables.specs.Changing.{changedBlocks, putBlocks}
+use Rattle.tables.specs.Changing.{changedBlocks}
 use Rattle.tables.specs.declared.change.Change.{Change}
 use Rattle.tables.proofs.change.Change as change
 use Rattle.tables.proofs.change.Change.Laws as change-laws
@@ -67,7 +67,7 @@ use Rattle.lent_blocks.proofs.free_held.Met as free-met
 use Rattle.lent_blocks.proofs.free_held.Symbol as free-symbol
 use Rattle.lent_blocks.proofs.change_blocks as walk
 use Rattle.lent_blocks.proofs.change_blocks.Code as code
-use Rattle.lent_blocks.proofs.change_blocks.Code.Mir.{t-1, t-5, t-9, t-13, t-15, t-17}
+use Rattle.lent_blocks.proofs.change_blocks.Code.Mir.{t-1, t-5, t-7, t-9}
 use Rattle.lent_blocks.proofs.change_blocks.Key.{name}
 use Rattle.lent_blocks.proofs.change_blocks.Statement.{statement}
 
@@ -109,52 +109,42 @@ module _ {M : Type 1} (𝓤 : URA M) (H : Heap 𝓤) (A : Atoms 𝓤) (mem″ : 
   abbrev Free : Contract 𝓤
   Free = tripleOf 𝓤 H A free.signature (free.spec 𝓤 H A mem″ run)
 
--- How a function of 20 locals is entered, of which the first two after the result are parameters: the locals are made, and the parameters' values v₁ and v₂
+-- How a function of 14 locals is entered, of which the first two after the result are parameters: the locals are made, and the parameters' values v₁ and v₂
 -- stored. The types of the locals are any: with those of the code in their place the steps would compute them again and again.
 module _ {M : Type 1} (𝓤 : URA M) (H : Heap 𝓤) (A : Atoms 𝓤) (W : Given 𝓤 H A)
-    (τ₀ τ₁ τ₂ τ₃ τ₄ τ₅ τ₆ τ₇ τ₈ τ₉ τ₁₀ τ₁₁ τ₁₂ τ₁₃ τ₁₄ τ₁₅ τ₁₆ τ₁₇ τ₁₈ τ₁₉ : Ty) (v₁ v₂ : Val) (Γ : List (Item 𝓤)) where
-  abbrev locals : (l₀ l₁ l₂ l₃ l₄ l₅ l₆ l₇ l₈ l₉ l₁₀ l₁₁ l₁₂ l₁₃ l₁₄ l₁₅ l₁₆ l₁₇ l₁₈ l₁₉ : ℕ) → Env 𝓤 H
-  locals l₀ l₁ l₂ l₃ l₄ l₅ l₆ l₇ l₈ l₉ l₁₀ l₁₁ l₁₂ l₁₃ l₁₄ l₁₅ l₁₆ l₁₇ l₁₈ l₁₉ =
-      (τ₀, l₀) ∷ (τ₁, l₁) ∷ (τ₂, l₂) ∷ (τ₃, l₃) ∷ (τ₄, l₄) ∷ (τ₅, l₅) ∷ (τ₆, l₆) ∷ (τ₇, l₇) ∷ (τ₈, l₈) ∷ (τ₉, l₉) ∷ (τ₁₀, l₁₀) ∷ (τ₁₁, l₁₁)
-      ∷ (τ₁₂, l₁₂) ∷ (τ₁₃, l₁₃) ∷ (τ₁₄, l₁₄) ∷ (τ₁₅, l₁₅) ∷ (τ₁₆, l₁₆) ∷ (τ₁₇, l₁₇) ∷ (τ₁₈, l₁₈) ∷ (τ₁₉, l₁₉) ∷ []
+    (τ₀ τ₁ τ₂ τ₃ τ₄ τ₅ τ₆ τ₇ τ₈ τ₉ τ₁₀ τ₁₁ τ₁₂ τ₁₃ : Ty) (v₁ v₂ : Val) (Γ : List (Item 𝓤)) where
+  abbrev locals : (l₀ l₁ l₂ l₃ l₄ l₅ l₆ l₇ l₈ l₉ l₁₀ l₁₁ l₁₂ l₁₃ : ℕ) → Env 𝓤 H
+  locals l₀ l₁ l₂ l₃ l₄ l₅ l₆ l₇ l₈ l₉ l₁₀ l₁₁ l₁₂ l₁₃ =
+      (τ₀, l₀) ∷ (τ₁, l₁) ∷ (τ₂, l₂) ∷ (τ₃, l₃) ∷ (τ₄, l₄) ∷ (τ₅, l₅) ∷ (τ₆, l₆) ∷ (τ₇, l₇) ∷ (τ₈, l₈) ∷ (τ₉, l₉) ∷ (τ₁₀, l₁₀) ∷ (τ₁₁, l₁₁) ∷ (τ₁₂, l₁₂) ∷ (τ₁₃, l₁₃) ∷ []
 
-  abbrev Stored : (l₀ l₁ l₂ l₃ l₄ l₅ l₆ l₇ l₈ l₉ l₁₀ l₁₁ l₁₂ l₁₃ l₁₄ l₁₅ l₁₆ l₁₇ l₁₈ l₁₉ : ℕ) → List (Item 𝓤)
-  Stored l₀ l₁ l₂ l₃ l₄ l₅ l₆ l₇ l₈ l₉ l₁₀ l₁₁ l₁₂ l₁₃ l₁₄ l₁₅ l₁₆ l₁₇ l₁₈ l₁₉ =
-      ‵ (froom τ₁₉ l₁₉ 0) ∷ ‵ (fdies τ₁₉ l₁₉) ∷ ‵ (froom τ₁₈ l₁₈ 0) ∷ ‵ (fdies τ₁₈ l₁₈) ∷ ‵ (froom τ₁₇ l₁₇ 0) ∷ ‵ (fdies τ₁₇ l₁₇)
-      ∷ ‵ (froom τ₁₆ l₁₆ 0) ∷ ‵ (fdies τ₁₆ l₁₆) ∷ ‵ (froom τ₁₅ l₁₅ 0) ∷ ‵ (fdies τ₁₅ l₁₅) ∷ ‵ (froom τ₁₄ l₁₄ 0) ∷ ‵ (fdies τ₁₄ l₁₄)
-      ∷ ‵ (froom τ₁₃ l₁₃ 0) ∷ ‵ (fdies τ₁₃ l₁₃) ∷ ‵ (froom τ₁₂ l₁₂ 0) ∷ ‵ (fdies τ₁₂ l₁₂) ∷ ‵ (froom τ₁₁ l₁₁ 0) ∷ ‵ (fdies τ₁₁ l₁₁)
-      ∷ ‵ (froom τ₁₀ l₁₀ 0) ∷ ‵ (fdies τ₁₀ l₁₀) ∷ ‵ (froom τ₉ l₉ 0) ∷ ‵ (fdies τ₉ l₉) ∷ ‵ (froom τ₈ l₈ 0) ∷ ‵ (fdies τ₈ l₈) ∷ ‵ (froom τ₇ l₇ 0)
-      ∷ ‵ (fdies τ₇ l₇) ∷ ‵ (froom τ₆ l₆ 0) ∷ ‵ (fdies τ₆ l₆) ∷ ‵ (froom τ₅ l₅ 0) ∷ ‵ (fdies τ₅ l₅) ∷ ‵ (froom τ₄ l₄ 0) ∷ ‵ (fdies τ₄ l₄)
-      ∷ ‵ (froom τ₃ l₃ 0) ∷ ‵ (fdies τ₃ l₃) ∷ ‵ (fat fullShare τ₂ l₂ 0 v₂) ∷ ‵ (fdies τ₂ l₂) ∷ ‵ (fat fullShare τ₁ l₁ 0 v₁) ∷ ‵ (fdies τ₁ l₁)
+  abbrev Stored : (l₀ l₁ l₂ l₃ l₄ l₅ l₆ l₇ l₈ l₉ l₁₀ l₁₁ l₁₂ l₁₃ : ℕ) → List (Item 𝓤)
+  Stored l₀ l₁ l₂ l₃ l₄ l₅ l₆ l₇ l₈ l₉ l₁₀ l₁₁ l₁₂ l₁₃ =
+      ‵ (froom τ₁₃ l₁₃ 0) ∷ ‵ (fdies τ₁₃ l₁₃) ∷ ‵ (froom τ₁₂ l₁₂ 0) ∷ ‵ (fdies τ₁₂ l₁₂) ∷ ‵ (froom τ₁₁ l₁₁ 0) ∷ ‵ (fdies τ₁₁ l₁₁) ∷ ‵ (froom τ₁₀ l₁₀ 0) ∷ ‵ (fdies τ₁₀ l₁₀) ∷ ‵ (froom τ₉ l₉ 0) ∷ ‵ (fdies τ₉ l₉) ∷ ‵ (froom τ₈ l₈ 0) ∷ ‵ (fdies τ₈ l₈) ∷ ‵ (froom τ₇ l₇ 0) ∷ ‵ (fdies τ₇ l₇) ∷ ‵ (froom τ₆ l₆ 0) ∷ ‵ (fdies τ₆ l₆) ∷ ‵ (froom τ₅ l₅ 0) ∷ ‵ (fdies τ₅ l₅) ∷ ‵ (froom τ₄ l₄ 0) ∷ ‵ (fdies τ₄ l₄) ∷ ‵ (froom τ₃ l₃ 0) ∷ ‵ (fdies τ₃ l₃)
+      ∷ ‵ (fat fullShare τ₂ l₂ 0 v₂) ∷ ‵ (fdies τ₂ l₂) ∷ ‵ (fat fullShare τ₁ l₁ 0 v₁) ∷ ‵ (fdies τ₁ l₁)
       ∷ ‵ (froom τ₀ l₀ 0) ∷ ‵ (fdies τ₀ l₀) ∷ Γ
 
   enters : (C : Calls 𝓤 H) (Λ : Loops 𝓤 H) (run : Body) (Post : Val → SProp 𝓤) → T (hasTy τ₁ v₁) × WT v₁ → T (hasTy τ₂ v₂) × WT v₂
-      → ((l₀ l₁ l₂ l₃ l₄ l₅ l₆ l₇ l₈ l₉ l₁₀ l₁₁ l₁₂ l₁₃ l₁₄ l₁₅ l₁₆ l₁₇ l₁₈ l₁₉ : ℕ)
-      → ent 𝓤 (⋆ 𝓤 H A (Stored l₀ l₁ l₂ l₃ l₄ l₅ l₆ l₇ l₈ l₉ l₁₀ l₁₁ l₁₂ l₁₃ l₁₄ l₁₅ l₁₆ l₁₇ l₁₈ l₁₉))
-      (Wp 𝓤 H C Λ (locals l₀ l₁ l₂ l₃ l₄ l₅ l₆ l₇ l₈ l₉ l₁₀ l₁₁ l₁₂ l₁₃ l₁₄ l₁₅ l₁₆ l₁₇ l₁₈ l₁₉) run
-      (atReturn 𝓤 H (locals l₀ l₁ l₂ l₃ l₄ l₅ l₆ l₇ l₈ l₉ l₁₀ l₁₁ l₁₂ l₁₃ l₁₄ l₁₅ l₁₆ l₁₇ l₁₈ l₁₉) Post)))
+      → ((l₀ l₁ l₂ l₃ l₄ l₅ l₆ l₇ l₈ l₉ l₁₀ l₁₁ l₁₂ l₁₃ : ℕ)
+      → ent 𝓤 (⋆ 𝓤 H A (Stored l₀ l₁ l₂ l₃ l₄ l₅ l₆ l₇ l₈ l₉ l₁₀ l₁₁ l₁₂ l₁₃))
+      (Wp 𝓤 H C Λ (locals l₀ l₁ l₂ l₃ l₄ l₅ l₆ l₇ l₈ l₉ l₁₀ l₁₁ l₁₂ l₁₃) run
+      (atReturn 𝓤 H (locals l₀ l₁ l₂ l₃ l₄ l₅ l₆ l₇ l₈ l₉ l₁₀ l₁₁ l₁₂ l₁₃) Post)))
       → ent 𝓤 (⋆ 𝓤 H A Γ) (WpFn 𝓤 H C Λ (record {
         lifetimes = 1;
         outlives = [];
         params = 2;
-        locals = local τ₀ valueLocal ∷ local τ₁ valueLocal ∷ local τ₂ valueLocal ∷ local τ₃ valueLocal ∷ local τ₄ valueLocal ∷ local τ₅ valueLocal
-            ∷ local τ₆ valueLocal ∷ local τ₇ valueLocal ∷ local τ₈ valueLocal ∷ local τ₉ valueLocal ∷ local τ₁₀ valueLocal ∷ local τ₁₁ valueLocal
-            ∷ local τ₁₂ valueLocal ∷ local τ₁₃ valueLocal ∷ local τ₁₄ valueLocal ∷ local τ₁₅ valueLocal ∷ local τ₁₆ valueLocal ∷ local τ₁₇ valueLocal
-            ∷ local τ₁₈ valueLocal ∷ local τ₁₉ valueLocal ∷ [];
+        locals = local τ₀ valueLocal ∷ local τ₁ valueLocal ∷ local τ₂ valueLocal ∷ local τ₃ valueLocal ∷ local τ₄ valueLocal ∷ local τ₅ valueLocal ∷ local τ₆ valueLocal ∷ local τ₇ valueLocal ∷ local τ₈ valueLocal ∷ local τ₉ valueLocal ∷ local τ₁₀ valueLocal ∷ local τ₁₁ valueLocal ∷ local τ₁₂ valueLocal ∷ local τ₁₃ valueLocal ∷ [];
         body = run;
       }) (v₁ ∷ v₂ ∷ []) Post)
   enters C Λ run Post typed₁ typed₂ k =
       qed W Γ ∵ enter ! C Λ _ (v₁ ∷ v₂ ∷ []) Post $
-      alloc1 ! (λ l₀. alloc1 ! (λ l₁. alloc1 ! (λ l₂. alloc1 ! (λ l₃. alloc1 ! (λ l₄. alloc1 ! (λ l₅. alloc1 ! (λ l₆. alloc1 ! (λ l₇. alloc1 ! (λ l₈.
-      alloc1 ! (λ l₉. alloc1 ! (λ l₁₀. alloc1 ! (λ l₁₁. alloc1 ! (λ l₁₂. alloc1 ! (λ l₁₃. alloc1 ! (λ l₁₄. alloc1 ! (λ l₁₅. alloc1 ! (λ l₁₆. alloc1 ! (λ l₁₇.
-      alloc1 ! (λ l₁₈. alloc1 ! (λ l₁₉. alloc0 ! $ params1 ! $
-      pass1 ! (init ! 36 refl typed₁) $ pass1 ! (init ! 34 refl typed₂) $ pass0 ! $
-      by ! (k l₀ l₁ l₂ l₃ l₄ l₅ l₆ l₇ l₈ l₉ l₁₀ l₁₁ l₁₂ l₁₃ l₁₄ l₁₅ l₁₆ l₁₇ l₁₈ l₁₉)))))))))))))))))))))
+      alloc1 ! (λ l₀. alloc1 ! (λ l₁. alloc1 ! (λ l₂. alloc1 ! (λ l₃. alloc1 ! (λ l₄. alloc1 ! (λ l₅. alloc1 ! (λ l₆. alloc1 ! (λ l₇. alloc1 ! (λ l₈. alloc1 ! (λ l₉. alloc1 ! (λ l₁₀. alloc1 ! (λ l₁₁. alloc1 ! (λ l₁₂. alloc1 ! (λ l₁₃. alloc0 ! $ params1 ! $
+      pass1 ! (init ! 24 refl typed₁) $ pass1 ! (init ! 22 refl typed₂) $ pass0 ! $
+      by ! (k l₀ l₁ l₂ l₃ l₄ l₅ l₆ l₇ l₈ l₉ l₁₀ l₁₁ l₁₂ l₁₃)))))))))))))))
 
--- A call with the records xs, which lie at offset o of the memory block b, lent under the name γ for the lifetime κ, and the change c; v₁ to v₇ are the machine
+-- A call with the records xs, which lie at offset o of the memory block b, lent under the name γ for the lifetime κ, and the change c; v₁ and v₃ are the machine
 -- values of its records.
 module _ {M : Type 1} (𝓤 : URA M) (H : Heap 𝓤) (A : Atoms 𝓤) (W : Given 𝓤 H A) (mem″ : Memory → SProp 𝓤) (run : Routine → Fun 𝓤) (κ : Lft) (q : Share)
-    (b o : ℕ) (γ : GName) (xs : List Block) (c : Change) (v₁ v₃ v₅ v₇ : Val) where
+    (b o : ℕ) (γ : GName) (xs : List Block) (c : Change) (v₁ v₃ : Val) where
   abbrev n : ℕ
   n = length xs
 
@@ -164,8 +154,8 @@ module _ {M : Type 1} (𝓤 : URA M) (H : Heap 𝓤) (A : Atoms 𝓤) (W : Given
 
   -- The change's machine value, the arguments, theirs, and all that the contract is stated over.
   abbrev cv : Val
-  cv = vstruct (vcons (vint w64 (c .first)) (vcons v₁ (vcons (vint w64 (c .second)) (vcons v₃ (vcons (vint w64 (c .third))
-      (vcons v₅ (vcons (vint w64 (c .domain)) (vcons v₇ (vcons (vbool (c .pulses)) (vcons (vint w32 (c .seconds)) (vcons (vbool (c .frees)) vnil)))))))))))
+  cv = vstruct (vcons (vint w64 (c .number)) (vcons v₁ (vcons (vint w64 (c .domain)) (vcons v₃ (vcons (vbool (c .pulses))
+      (vcons (vint w32 (c .seconds)) (vcons (vbool (c .frees)) vnil)))))))
 
   abbrev x : RefT (List Block) × (Change × Unit {0})
   x = (record { ptr = (b, o); name = γ; now = xs }, (c, tt))
@@ -284,12 +274,12 @@ module _ {M : Type 1} (𝓤 : URA M) (H : Heap 𝓤) (A : Atoms 𝓤) (W : Given
     free-done a u = returned 𝓤 H A W the-row b o us (map (freedIfHeld d) us) a u _
         (λ e. exE 𝓤 _ (λ ws. last 𝓤 H A W the-row b o (a .1) (length us) (fsep ftrue ftrue) (ws .0) (map (freedIfHeld d) us)))
 
-  -- The body, its locals in the memory blocks l₀ to l₁₉.
-  module _ (𝓣 : Tables 𝓤 H) (g : Room the-row n) (wide₁ : c .first < 2 ^ 64) (is₁ : Is the-row (c .one) (v₁ ∷ [])) (wide₃ : c .second < 2 ^ 64)
-      (is₃ : Is the-row (c .two) (v₃ ∷ [])) (wide₅ : c .third < 2 ^ 64) (is₅ : Is the-row (c .three) (v₅ ∷ [])) (wide : c .domain < 2 ^ 64)
-      (narrow : c .seconds < 2 ^ 32) (fm : FmC 𝓤 H (W .laws) (𝓣 .C)) (known-put : Triple 𝓤 (𝓣 .C put-symbol.name) put-block)
+  -- The body, its locals in the memory blocks l₀ to l₁₃.
+  module _ (𝓣 : Tables 𝓤 H) (g : Room the-row n) (wide₁ : c .number < 2 ^ 64) (is₁ : Is the-row (c .block) (v₁ ∷ []))
+      (wide : c .domain < 2 ^ 64) (narrow : c .seconds < 2 ^ 32) (fm : FmC 𝓤 H (W .laws) (𝓣 .C))
+      (known-put : Triple 𝓤 (𝓣 .C put-symbol.name) put-block)
       (known-count : Triple 𝓤 (𝓣 .C count-symbol.name) count-down) (known-free : Triple 𝓤 (𝓣 .C free-symbol.name) free-held)
-      (l₀ l₁ l₂ l₃ l₄ l₅ l₆ l₇ l₈ l₉ l₁₀ l₁₁ l₁₂ l₁₃ l₁₄ l₁₅ l₁₆ l₁₇ l₁₈ l₁₉ : ℕ) where
+      (l₀ l₁ l₂ l₃ l₄ l₅ l₆ l₇ l₈ l₉ l₁₀ l₁₁ l₁₂ l₁₃ : ℕ) where
     abbrev C : Calls 𝓤 H
     C = 𝓣 .C
 
@@ -297,15 +287,15 @@ module _ {M : Type 1} (𝓤 : URA M) (H : Heap 𝓤) (A : Atoms 𝓤) (W : Given
     Λ = 𝓣 .Λ
 
     abbrev En : Env 𝓤 H
-    En = locals 𝓤 H A W tyUnit slice change-laws.mir block block block tyUnit ref lent ref lent ref lent tyBool tyUnit ref lent tyUnit ref lent
-        (sliceVal (b, o) n) cv [] l₀ l₁ l₂ l₃ l₄ l₅ l₆ l₇ l₈ l₉ l₁₀ l₁₁ l₁₂ l₁₃ l₁₄ l₁₅ l₁₆ l₁₇ l₁₈ l₁₉
+    En = locals 𝓤 H A W tyUnit slice change-laws.mir block tyUnit ref lent tyBool tyUnit ref lent tyUnit ref lent
+        (sliceVal (b, o) n) cv [] l₀ l₁ l₂ l₃ l₄ l₅ l₆ l₇ l₈ l₉ l₁₀ l₁₁ l₁₂ l₁₃
 
     -- The state between two calls, with the records us in memory: of the locals only the parameters hold something.
     abbrev Idle : List Block → List (Item 𝓤)
     Idle us = ‵ (cells (mem the-row) us b o) ∷ ‵ (fobor κ q (Held the-row n b o γ)) ∷ ‵ (fobs γ (codedHoleys the-row .code (heres the-row xs)))
         ∷ ‵ (fauth γ (codedHoleys the-row .code (heres the-row xs))) ∷ ‵ (room the-row n)
-        ∷ Stored 𝓤 H A W tyUnit slice change-laws.mir block block block tyUnit ref lent ref lent ref lent tyBool tyUnit ref lent tyUnit ref lent
-        (sliceVal (b, o) n) cv [] l₀ l₁ l₂ l₃ l₄ l₅ l₆ l₇ l₈ l₉ l₁₀ l₁₁ l₁₂ l₁₃ l₁₄ l₁₅ l₁₆ l₁₇ l₁₈ l₁₉
+        ∷ Stored 𝓤 H A W tyUnit slice change-laws.mir block tyUnit ref lent tyBool tyUnit ref lent tyUnit ref lent
+        (sliceVal (b, o) n) cv [] l₀ l₁ l₂ l₃ l₄ l₅ l₆ l₇ l₈ l₉ l₁₀ l₁₁ l₁₂ l₁₃
 
     -- A part of the code runs from there.
     abbrev Runs : Body → List Block → Type 1
@@ -315,77 +305,35 @@ module _ {M : Type 1} (𝓤 : URA M) (H : Heap 𝓤) (A : Atoms 𝓤) (W : Given
     typed z v is = lawful the-type the-laws 𝓤 H A W .typed z (v ∷ []) is .0
 
     -- The three calls of `put_block`.
-    puts₁ : (us : List Block) → length us ≡ n → Runs t-5 (set us (c .first) (c .one)) → Runs t-1 us
+    puts₁ : (us : List Block) → length us ≡ n → Runs t-5 (set us (c .number) (c .block)) → Runs t-1 us
     puts₁ us long k =
         qed W (Idle us) ∵ exec ! C Λ En t-1 (atRet En Post) $
-        assigns ! (of-opd ! (load ! (from ! (fld ! refl (stop !))) (look-in ! 39 (sub ! 1 refl (whole !))))) (from ! (stop !))
-        (init ! 37 refl (typed (c .one) v₁ is₁)) $
-        assigns ! (addr ! (from ! (fld ! refl (hop ! (look-in ! 41 (sub ! 0 refl (whole !))) (stop !))))) (from ! (stop !)) (init ! 29 refl (tt, tt)) $
-        assigns ! (agg ! (and-then ! (load ! (from ! (stop !)) (look ! 29 refl))
-        (and-then ! (load ! (from ! (fld ! refl (stop !))) (look-in ! 41 (sub ! 1 refl (whole !)))) (no-more !))))
-        (from ! (stop !)) (init ! 27 refl (tt, (tt, (record { fits = g .0 }, tt)))) $
-        rewrite ! 27 (λ (m : ℕ). ‵ (fat fullShare lent l₈ 0 (sliceVal (b, o) m))) (sym long) refl $
-        use1 W (later (some (λ (a : ℕ × GName). raw (put-block .pre (put-at us (c .first) (c .one) v₁ a)) ⊛ ‵ (Loan us a))))
-        (put-ready us (c .first) (c .one) v₁ (subst (Room the-row) (sym long) g) wide₁ is₁) $ await ! tt $ pick ! (λ a. split ! $
-        calls-at ! fm put-block known-put (put-at us (c .first) (c .one) v₁ a)
-        (and-then ! (load ! (from ! (stop !)) (look ! 28 refl)) (and-then ! (load ! (from ! (fld ! refl (stop !))) (look-in ! 40 (sub ! 0 refl (whole !))))
-        (and-then ! (load ! (from ! (stop !)) (look ! 38 refl)) (no-more !)))) (λ u.
-        use2 W (later (given (u ≡ vunit) (‵ (cells (mem the-row) (set us (c .first) (c .one)) b o)))) (put-done us (c .first) (c .one) v₁ a u) $
-        await ! tt $ learn ! (λ e. land ! (from ! (stop !)) (init ! 31 refl (typed-unit u e)) $
-        forget ! 37 refl $ forget ! 29 refl $ forget ! 27 refl $ forget ! 31 refl $ by ! k)))
-
-    puts₂ : (us : List Block) → length us ≡ n → Runs t-9 (set us (c .second) (c .two)) → Runs t-5 us
-    puts₂ us long k =
-        qed W (Idle us) ∵ exec ! C Λ En t-5 (atRet En Post) $
-        assigns ! (of-opd ! (load ! (from ! (fld ! refl (stop !))) (look-in ! 39 (sub ! 3 refl (whole !))))) (from ! (stop !))
-        (init ! 35 refl (typed (c .two) v₃ is₃)) $
-        assigns ! (addr ! (from ! (fld ! refl (hop ! (look-in ! 41 (sub ! 0 refl (whole !))) (stop !))))) (from ! (stop !)) (init ! 25 refl (tt, tt)) $
-        assigns ! (agg ! (and-then ! (load ! (from ! (stop !)) (look ! 25 refl))
-        (and-then ! (load ! (from ! (fld ! refl (stop !))) (look-in ! 41 (sub ! 1 refl (whole !)))) (no-more !))))
-        (from ! (stop !)) (init ! 23 refl (tt, (tt, (record { fits = g .0 }, tt)))) $
-        rewrite ! 23 (λ (m : ℕ). ‵ (fat fullShare lent l₁₀ 0 (sliceVal (b, o) m))) (sym long) refl $
-        use1 W (later (some (λ (a : ℕ × GName). raw (put-block .pre (put-at us (c .second) (c .two) v₃ a)) ⊛ ‵ (Loan us a))))
-        (put-ready us (c .second) (c .two) v₃ (subst (Room the-row) (sym long) g) wide₃ is₃) $ await ! tt $ pick ! (λ a. split ! $
-        calls-at ! fm put-block known-put (put-at us (c .second) (c .two) v₃ a)
-        (and-then ! (load ! (from ! (stop !)) (look ! 24 refl)) (and-then ! (load ! (from ! (fld ! refl (stop !))) (look-in ! 40 (sub ! 2 refl (whole !))))
-        (and-then ! (load ! (from ! (stop !)) (look ! 36 refl)) (no-more !)))) (λ u.
-        use2 W (later (given (u ≡ vunit) (‵ (cells (mem the-row) (set us (c .second) (c .two)) b o)))) (put-done us (c .second) (c .two) v₃ a u) $
-        await ! tt $ learn ! (λ e. land ! (from ! (stop !)) (init ! 31 refl (typed-unit u e)) $
-        forget ! 35 refl $ forget ! 25 refl $ forget ! 23 refl $ forget ! 31 refl $ by ! k)))
-
-    puts₃ : (us : List Block) → length us ≡ n → Runs t-13 (set us (c .third) (c .three)) → Runs t-9 us
-    puts₃ us long k =
-        qed W (Idle us) ∵ exec ! C Λ En t-9 (atRet En Post) $
-        assigns ! (of-opd ! (load ! (from ! (fld ! refl (stop !))) (look-in ! 39 (sub ! 5 refl (whole !))))) (from ! (stop !))
-        (init ! 33 refl (typed (c .three) v₅ is₅)) $
-        assigns ! (addr ! (from ! (fld ! refl (hop ! (look-in ! 41 (sub ! 0 refl (whole !))) (stop !))))) (from ! (stop !)) (init ! 21 refl (tt, tt)) $
+        assigns ! (of-opd ! (load ! (from ! (fld ! refl (stop !))) (look-in ! 27 (sub ! 1 refl (whole !))))) (from ! (stop !))
+        (init ! 25 refl (typed (c .block) v₁ is₁)) $
+        assigns ! (addr ! (from ! (fld ! refl (hop ! (look-in ! 29 (sub ! 0 refl (whole !))) (stop !))))) (from ! (stop !)) (init ! 21 refl (tt, tt)) $
         assigns ! (agg ! (and-then ! (load ! (from ! (stop !)) (look ! 21 refl))
-        (and-then ! (load ! (from ! (fld ! refl (stop !))) (look-in ! 41 (sub ! 1 refl (whole !)))) (no-more !))))
+        (and-then ! (load ! (from ! (fld ! refl (stop !))) (look-in ! 29 (sub ! 1 refl (whole !)))) (no-more !))))
         (from ! (stop !)) (init ! 19 refl (tt, (tt, (record { fits = g .0 }, tt)))) $
-        rewrite ! 19 (λ (m : ℕ). ‵ (fat fullShare lent l₁₂ 0 (sliceVal (b, o) m))) (sym long) refl $
-        use1 W (later (some (λ (a : ℕ × GName). raw (put-block .pre (put-at us (c .third) (c .three) v₅ a)) ⊛ ‵ (Loan us a))))
-        (put-ready us (c .third) (c .three) v₅ (subst (Room the-row) (sym long) g) wide₅ is₅) $ await ! tt $ pick ! (λ a. split ! $
-        calls-at ! fm put-block known-put (put-at us (c .third) (c .three) v₅ a)
-        (and-then ! (load ! (from ! (stop !)) (look ! 20 refl)) (and-then ! (load ! (from ! (fld ! refl (stop !))) (look-in ! 40 (sub ! 4 refl (whole !))))
-        (and-then ! (load ! (from ! (stop !)) (look ! 34 refl)) (no-more !)))) (λ u.
-        use2 W (later (given (u ≡ vunit) (‵ (cells (mem the-row) (set us (c .third) (c .three)) b o)))) (put-done us (c .third) (c .three) v₅ a u) $
-        await ! tt $ learn ! (λ e. land ! (from ! (stop !)) (init ! 31 refl (typed-unit u e)) $
-        forget ! 33 refl $ forget ! 21 refl $ forget ! 19 refl $ forget ! 31 refl $ by ! k)))
+        rewrite ! 19 (λ (m : ℕ). ‵ (fat fullShare lent l₆ 0 (sliceVal (b, o) m))) (sym long) refl $
+        use1 W (later (some (λ (a : ℕ × GName). raw (put-block .pre (put-at us (c .number) (c .block) v₁ a)) ⊛ ‵ (Loan us a))))
+        (put-ready us (c .number) (c .block) v₁ (subst (Room the-row) (sym long) g) wide₁ is₁) $ await ! tt $ pick ! (λ a. split ! $
+        calls-at ! fm put-block known-put (put-at us (c .number) (c .block) v₁ a)
+        (and-then ! (load ! (from ! (stop !)) (look ! 20 refl)) (and-then ! (load ! (from ! (fld ! refl (stop !))) (look-in ! 28 (sub ! 0 refl (whole !))))
+        (and-then ! (load ! (from ! (stop !)) (look ! 26 refl)) (no-more !)))) (λ u.
+        use2 W (later (given (u ≡ vunit) (‵ (cells (mem the-row) (set us (c .number) (c .block)) b o)))) (put-done us (c .number) (c .block) v₁ a u) $
+        await ! tt $ learn ! (λ e. land ! (from ! (stop !)) (init ! 23 refl (typed-unit u e)) $
+        forget ! 25 refl $ forget ! 21 refl $ forget ! 19 refl $ forget ! 23 refl $ by ! k)))
 
     -- The end: the borrow is closed over the records at the exit.
-    ends : (us : List Block) → length us ≡ n → us ≡ ys → Runs t-17 us
+    ends : (us : List Block) → length us ≡ n → us ≡ ys → Runs t-9 us
     ends us long e =
-        qed W (Idle us) ∵ exec ! C Λ En t-17 (atRet En Post) $ assigns ! (of-opd ! (unit-lit !)) (from ! (stop !)) (init ! 43 refl (tt, tt)) $
+        qed W (Idle us) ∵ exec ! C Λ En t-9 (atRet En Post) $ assigns ! (of-opd ! (unit-lit !)) (from ! (stop !)) (init ! 31 refl (tt, tt)) $
         rewrite ! 0 (λ (ws : List Block). ‵ (cells (mem the-row) ws b o)) e refl $
         use1 W (‵ (cells (Holey (mem the-row)) (heres the-row ys) b o)) (heres-in 𝓤 H A W (mem the-row) ys b o) $
         feqI ! ℕ (length (heres the-row ys)) n (length-map ys (here (mem the-row)) ∙ same) $ fjoin ! $
         close-ref ! tt (Arr (Holey (mem the-row)) n) (heres the-row ys) $
-        returns ! (look ! 42 refl) $ forget ! 42 refl $ forget ! 40 refl $ forget ! 38 refl $
-        move ! (42 ∷ 43 ∷ []) $ free1 ! $ move ! (40 ∷ 41 ∷ []) $ free1 ! $ move ! (38 ∷ 39 ∷ []) $ free1 ! $ move ! (36 ∷ 37 ∷ []) $ free1 ! $
-        move ! (34 ∷ 35 ∷ []) $ free1 ! $ move ! (32 ∷ 33 ∷ []) $ free1 ! $ move ! (30 ∷ 31 ∷ []) $ free1 ! $ move ! (28 ∷ 29 ∷ []) $ free1 ! $
-        move ! (26 ∷ 27 ∷ []) $ free1 ! $ move ! (24 ∷ 25 ∷ []) $ free1 ! $ move ! (22 ∷ 23 ∷ []) $ free1 ! $ move ! (20 ∷ 21 ∷ []) $ free1 ! $
-        move ! (18 ∷ 19 ∷ []) $ free1 ! $ move ! (16 ∷ 17 ∷ []) $ free1 ! $ move ! (14 ∷ 15 ∷ []) $ free1 ! $ move ! (12 ∷ 13 ∷ []) $ free1 ! $
-        move ! (10 ∷ 11 ∷ []) $ free1 ! $ move ! (8 ∷ 9 ∷ []) $ free1 ! $ move ! (6 ∷ 7 ∷ []) $ free1 ! $ move ! (4 ∷ 5 ∷ []) $ free1 ! $
+        returns ! (look ! 30 refl) $ forget ! 30 refl $ forget ! 28 refl $ forget ! 26 refl $
+        move ! (30 ∷ 31 ∷ []) $ free1 ! $ move ! (28 ∷ 29 ∷ []) $ free1 ! $ move ! (26 ∷ 27 ∷ []) $ free1 ! $ move ! (24 ∷ 25 ∷ []) $ free1 ! $ move ! (22 ∷ 23 ∷ []) $ free1 ! $ move ! (20 ∷ 21 ∷ []) $ free1 ! $ move ! (18 ∷ 19 ∷ []) $ free1 ! $ move ! (16 ∷ 17 ∷ []) $ free1 ! $ move ! (14 ∷ 15 ∷ []) $ free1 ! $ move ! (12 ∷ 13 ∷ []) $ free1 ! $ move ! (10 ∷ 11 ∷ []) $ free1 ! $ move ! (8 ∷ 9 ∷ []) $ free1 ! $ move ! (6 ∷ 7 ∷ []) $ free1 ! $ move ! (4 ∷ 5 ∷ []) $ free1 ! $
         free0 ! $ by ! (exits same)
       where
         same : length ys ≡ n
@@ -396,21 +344,21 @@ module _ {M : Type 1} (𝓤 : URA M) (H : Heap 𝓤) (A : Atoms 𝓤) (W : Given
     freed us = cond (c .frees) (map (freedIfHeld (c .domain)) us) us
 
     -- The second branch, from records us of which it makes those at the exit.
-    frees-held : (us : List Block) → length us ≡ n → freed us ≡ ys → Runs t-15 us
+    frees-held : (us : List Block) → length us ≡ n → freed us ≡ ys → Runs t-7 us
     frees-held us long e =
-        qed W (Idle us) ∵ exec ! C Λ En t-15 (atRet En Post) $
-        assigns ! (of-opd ! (load ! (from ! (fld ! refl (stop !))) (look-in ! 39 (sub ! 10 refl (whole !))))) (from ! (stop !)) (init ! 17 refl (tt, tt)) $
+        qed W (Idle us) ∵ exec ! C Λ En t-7 (atRet En Post) $
+        assigns ! (of-opd ! (load ! (from ! (fld ! refl (stop !))) (look-in ! 27 (sub ! 6 refl (whole !))))) (from ! (stop !)) (init ! 17 refl (tt, tt)) $
         first ! $ branches ! (load ! (from ! (stop !)) (look ! 17 refl))
         (λ so.
-        assigns ! (addr ! (from ! (fld ! refl (hop ! (look-in ! 41 (sub ! 0 refl (whole !))) (stop !))))) (from ! (stop !)) (init ! 7 refl (tt, tt)) $
+        assigns ! (addr ! (from ! (fld ! refl (hop ! (look-in ! 29 (sub ! 0 refl (whole !))) (stop !))))) (from ! (stop !)) (init ! 7 refl (tt, tt)) $
         assigns ! (agg ! (and-then ! (load ! (from ! (stop !)) (look ! 7 refl))
-        (and-then ! (load ! (from ! (fld ! refl (stop !))) (look-in ! 41 (sub ! 1 refl (whole !)))) (no-more !))))
+        (and-then ! (load ! (from ! (fld ! refl (stop !))) (look-in ! 29 (sub ! 1 refl (whole !)))) (no-more !))))
         (from ! (stop !)) (init ! 5 refl (tt, (tt, (record { fits = g .0 }, tt)))) $
-        rewrite ! 5 (λ (m : ℕ). ‵ (fat fullShare lent l₁₉ 0 (sliceVal (b, o) m))) (sym long) refl $
+        rewrite ! 5 (λ (m : ℕ). ‵ (fat fullShare lent l₁₃ 0 (sliceVal (b, o) m))) (sym long) refl $
         use1 W (later (some (λ (a : ℕ × GName). raw (free-held .pre (free-at us (c .domain) a)) ⊛ ‵ (Loan us a))))
         (free-ready us (c .domain) (subst (Room the-row) (sym long) g) wide) $ await ! tt $ pick ! (λ a. split ! $
         calls-at-last ! fm free-held known-free (free-at us (c .domain) a)
-        (and-then ! (load ! (from ! (stop !)) (look ! 6 refl)) (and-then ! (load ! (from ! (fld ! refl (stop !))) (look-in ! 40 (sub ! 6 refl (whole !))))
+        (and-then ! (load ! (from ! (stop !)) (look ! 6 refl)) (and-then ! (load ! (from ! (fld ! refl (stop !))) (look-in ! 28 (sub ! 2 refl (whole !))))
         (no-more !)))
         (λ u. use2 W (later (given (u ≡ vunit) (‵ (cells (mem the-row) (map (freedIfHeld (c .domain)) us) b o)))) (free-done us (c .domain) a u) $
         await ! tt $ learn ! (λ is-unit. land-last ! (from ! (stop !)) (init ! 9 refl (typed-unit u is-unit)) $
@@ -420,21 +368,21 @@ module _ {M : Type 1} (𝓤 : URA M) (H : Heap 𝓤) (A : Atoms 𝓤) (W : Given
         (λ not-so. skips ! $ forget ! 17 refl $ by ! (ends us long (sym (untaken (c .frees) (map (freedIfHeld (c .domain)) us) us not-so) ∙ e)))
 
     -- The first branch, likewise.
-    counts-down : (us : List Block) → length us ≡ n → freed (cond (c .pulses) (map (countedDown (c .seconds)) us) us) ≡ ys → Runs t-13 us
+    counts-down : (us : List Block) → length us ≡ n → freed (cond (c .pulses) (map (countedDown (c .seconds)) us) us) ≡ ys → Runs t-5 us
     counts-down us long e =
-        qed W (Idle us) ∵ exec ! C Λ En t-13 (atRet En Post) $
-        assigns ! (of-opd ! (load ! (from ! (fld ! refl (stop !))) (look-in ! 39 (sub ! 8 refl (whole !))))) (from ! (stop !)) (init ! 17 refl (tt, tt)) $
+        qed W (Idle us) ∵ exec ! C Λ En t-5 (atRet En Post) $
+        assigns ! (of-opd ! (load ! (from ! (fld ! refl (stop !))) (look-in ! 27 (sub ! 4 refl (whole !))))) (from ! (stop !)) (init ! 17 refl (tt, tt)) $
         first ! $ branches ! (load ! (from ! (stop !)) (look ! 17 refl))
         (λ so.
-        assigns ! (addr ! (from ! (fld ! refl (hop ! (look-in ! 41 (sub ! 0 refl (whole !))) (stop !))))) (from ! (stop !)) (init ! 13 refl (tt, tt)) $
+        assigns ! (addr ! (from ! (fld ! refl (hop ! (look-in ! 29 (sub ! 0 refl (whole !))) (stop !))))) (from ! (stop !)) (init ! 13 refl (tt, tt)) $
         assigns ! (agg ! (and-then ! (load ! (from ! (stop !)) (look ! 13 refl))
-        (and-then ! (load ! (from ! (fld ! refl (stop !))) (look-in ! 41 (sub ! 1 refl (whole !)))) (no-more !))))
+        (and-then ! (load ! (from ! (fld ! refl (stop !))) (look-in ! 29 (sub ! 1 refl (whole !)))) (no-more !))))
         (from ! (stop !)) (init ! 11 refl (tt, (tt, (record { fits = g .0 }, tt)))) $
-        rewrite ! 11 (λ (m : ℕ). ‵ (fat fullShare lent l₁₆ 0 (sliceVal (b, o) m))) (sym long) refl $
+        rewrite ! 11 (λ (m : ℕ). ‵ (fat fullShare lent l₁₀ 0 (sliceVal (b, o) m))) (sym long) refl $
         use1 W (later (some (λ (a : ℕ × GName). raw (count-down .pre (count-at us (c .seconds) a)) ⊛ ‵ (Loan us a))))
         (count-ready us (c .seconds) (subst (Room the-row) (sym long) g) narrow) $ await ! tt $ pick ! (λ a. split ! $
         calls-at-last ! fm count-down known-count (count-at us (c .seconds) a)
-        (and-then ! (load ! (from ! (stop !)) (look ! 12 refl)) (and-then ! (load ! (from ! (fld ! refl (stop !))) (look-in ! 40 (sub ! 9 refl (whole !))))
+        (and-then ! (load ! (from ! (stop !)) (look ! 12 refl)) (and-then ! (load ! (from ! (fld ! refl (stop !))) (look-in ! 28 (sub ! 5 refl (whole !))))
         (no-more !)))
         (λ u. use2 W (later (given (u ≡ vunit) (‵ (cells (mem the-row) (map (countedDown (c .seconds)) us) b o)))) (count-done us (c .seconds) a u) $
         await ! tt $ learn ! (λ is-unit. land-last ! (from ! (stop !)) (init ! 15 refl (typed-unit u is-unit)) $
@@ -445,53 +393,39 @@ module _ {M : Type 1} (𝓤 : URA M) (H : Heap 𝓤) (A : Atoms 𝓤) (W : Given
         by ! (frees-held us long (ap freed (sym (untaken (c .pulses) (map (countedDown (c .seconds)) us) us not-so)) ∙ e)))
 
     -- All of the code, from the records at the entry.
-    changes : freed (cond (c .pulses) (map (countedDown (c .seconds)) (putBlocks c xs)) (putBlocks c xs)) ≡ ys
+    abbrev put-one : List Block
+    put-one = set xs (c .number) (c .block)
+
+    changes : freed (cond (c .pulses) (map (countedDown (c .seconds)) put-one) put-one) ≡ ys
     unfolding changedBlocks
     changes = refl
 
     all-runs : Runs t-1 xs
-    all-runs = puts₁ xs refl (puts₂ one long₁ (puts₃ two long₂ (counts-down (putBlocks c xs) long₃ changes)))
-      where
-        one : List Block
-        one = set xs (c .first) (c .one)
-
-        two : List Block
-        two = set one (c .second) (c .two)
-
-        long₁ : length one ≡ n
-        long₁ = length-set xs (c .first) (c .one)
-
-        long₂ : length two ≡ n
-        long₂ = length-set one (c .second) (c .two) ∙ long₁
-
-        long₃ : length (putBlocks c xs) ≡ n
-        long₃ = length-set two (c .third) (c .three) ∙ long₂
+    all-runs = puts₁ xs refl (counts-down put-one (length-set xs (c .number) (c .block)) changes)
 
     -- From the entry, with the parameters stored: the borrow is opened.
-    begins : ent 𝓤 (⋆ 𝓤 H A (Stored 𝓤 H A W tyUnit slice change-laws.mir block block block tyUnit ref lent ref lent ref lent tyBool tyUnit ref lent tyUnit ref lent
-        (sliceVal (b, o) n) cv Entry l₀ l₁ l₂ l₃ l₄ l₅ l₆ l₇ l₈ l₉ l₁₀ l₁₁ l₁₂ l₁₃ l₁₄ l₁₅ l₁₆ l₁₇ l₁₈ l₁₉))
+    begins : ent 𝓤 (⋆ 𝓤 H A (Stored 𝓤 H A W tyUnit slice change-laws.mir block tyUnit ref lent tyBool tyUnit ref lent tyUnit ref lent
+        (sliceVal (b, o) n) cv Entry l₀ l₁ l₂ l₃ l₄ l₅ l₆ l₇ l₈ l₉ l₁₀ l₁₁ l₁₂ l₁₃))
         (Wp 𝓤 H C Λ En t-1 (atReturn 𝓤 H En Post))
     begins =
-        qed W (Stored 𝓤 H A W tyUnit slice change-laws.mir block block block tyUnit ref lent ref lent ref lent tyBool tyUnit ref lent tyUnit ref lent
-        (sliceVal (b, o) n) cv Entry l₀ l₁ l₂ l₃ l₄ l₅ l₆ l₇ l₈ l₉ l₁₀ l₁₁ l₁₂ l₁₃ l₁₄ l₁₅ l₁₆ l₁₇ l₁₈ l₁₉) ∵
+        qed W (Stored 𝓤 H A W tyUnit slice change-laws.mir block tyUnit ref lent tyBool tyUnit ref lent tyUnit ref lent
+        (sliceVal (b, o) n) cv Entry l₀ l₁ l₂ l₃ l₄ l₅ l₆ l₇ l₈ l₉ l₁₀ l₁₁ l₁₂ l₁₃) ∵
         exec ! C Λ En t-1 (atRet En Post) $
-        move ! (41 ∷ []) $ fsplit ! $ fsplit ! $ fsplit ! $ drop ! $ move ! (1 ∷ []) $ fsplit ! $ move ! (44 ∷ []) $ split ! $ move ! (2 ∷ 3 ∷ 0 ∷ []) $
+        move ! (29 ∷ []) $ fsplit ! $ fsplit ! $ fsplit ! $ drop ! $ move ! (1 ∷ []) $ fsplit ! $ move ! (32 ∷ []) $ split ! $ move ! (2 ∷ 3 ∷ 0 ∷ []) $
         open-ref ! tt (Arr (Holey (mem the-row)) n) {b = b} {o = o} $ fsplit ! $ drop ! $
         use1 W (‵ (cells (mem the-row) xs b o)) (heres-out 𝓤 H A W (mem the-row) xs b o) $
         move ! (4 ∷ []) $ drop ! $ move ! (5 ∷ []) $ drop ! $ by ! all-runs
 
   -- The whole code, from the entry.
-  body : (𝓣 : Tables 𝓤 H) → Room the-row n → T (hasTy change-laws.mir cv) × WT cv → c .first < 2 ^ 64 → Is the-row (c .one) (v₁ ∷ []) → c .second < 2 ^ 64
-      → Is the-row (c .two) (v₃ ∷ []) → c .third < 2 ^ 64 → Is the-row (c .three) (v₅ ∷ []) → c .domain < 2 ^ 64 → c .seconds < 2 ^ 32
+  body : (𝓣 : Tables 𝓤 H) → Room the-row n → T (hasTy change-laws.mir cv) × WT cv → c .number < 2 ^ 64 → Is the-row (c .block) (v₁ ∷ []) → c .domain < 2 ^ 64 → c .seconds < 2 ^ 32
       → FmC 𝓤 H (W .laws) (𝓣 .C)
       → Triple 𝓤 (𝓣 .C put-symbol.name) put-block → Triple 𝓤 (𝓣 .C count-symbol.name) count-down → Triple 𝓤 (𝓣 .C free-symbol.name) free-held
       → ent 𝓤 (onEntry 𝓤 H A walk.signature (κ, tt) (q, tt) x at) (WpFn 𝓤 H (𝓣 .C) (𝓣 .Λ) code.function (sliceVal (b, o) n ∷ cv ∷ []) Post)
-  body 𝓣 g typed-change wide₁ is₁ wide₃ is₃ wide₅ is₅ wide narrow fm known-put known-count known-free =
-      enters 𝓤 H A W tyUnit slice change-laws.mir block block block tyUnit ref lent ref lent ref lent tyBool tyUnit ref lent tyUnit ref lent
+  body 𝓣 g typed-change wide₁ is₁ wide narrow fm known-put known-count known-free =
+      enters 𝓤 H A W tyUnit slice change-laws.mir block tyUnit ref lent tyBool tyUnit ref lent tyUnit ref lent
       (sliceVal (b, o) n) cv Entry (𝓣 .C) (𝓣 .Λ) t-1 Post (tt, (tt, (record { fits = g .0 }, tt))) typed-change
-      (λ l₀ l₁ l₂ l₃ l₄ l₅ l₆ l₇ l₈ l₉ l₁₀ l₁₁ l₁₂ l₁₃ l₁₄ l₁₅ l₁₆ l₁₇ l₁₈ l₁₉.
-      begins 𝓣 g wide₁ is₁ wide₃ is₃ wide₅ is₅ wide narrow fm known-put known-count known-free l₀ l₁ l₂ l₃ l₄ l₅ l₆ l₇ l₈ l₉ l₁₀ l₁₁ l₁₂ l₁₃ l₁₄ l₁₅ l₁₆ l₁₇
-      l₁₈ l₁₉)
+      (λ l₀ l₁ l₂ l₃ l₄ l₅ l₆ l₇ l₈ l₉ l₁₀ l₁₁ l₁₂ l₁₃.
+      begins 𝓣 g wide₁ is₁ wide narrow fm known-put known-count known-free l₀ l₁ l₂ l₃ l₄ l₅ l₆ l₇ l₈ l₉ l₁₀ l₁₁ l₁₂ l₁₃)
 
 module _ {M : Type 1} (𝓤 : URA M) (H : Heap 𝓤) (A : Atoms 𝓤) (W : Given 𝓤 H A) (mem″ : Memory → SProp 𝓤) (run : Routine → Fun 𝓤) (𝓣 : Tables 𝓤 H)
     (known-put : Triple 𝓤 (𝓣 .C put-symbol.name) (Put 𝓤 H A mem″ run)) (known-count : Triple 𝓤 (𝓣 .C count-symbol.name) (Count 𝓤 H A mem″ run))
@@ -505,11 +439,9 @@ module _ {M : Type 1} (𝓤 : URA M) (H : Heap 𝓤) (A : Atoms 𝓤) (W : Given
       (((κ, tt), (q, tt), tt, (r, (c, tt)), (slice-vals r, (vals change.the-type change-laws.the-laws c, tt))), tt)))
   walk-of κ q r c g is =
       let all = owed change.the-type change-laws.the-laws c _ is in
-      body 𝓤 H A W mem″ run κ q (r .ptr .0) (r .ptr .1) (r .name) (r .now) c (val the-type the-laws (c .one)) (val the-type the-laws (c .two))
-      (val the-type the-laws (c .three))
-      (val domain.the-type domain-laws.the-laws (c .changed)) 𝓣 g (lawful change.the-type change-laws.the-laws 𝓤 H A W .typed c _ is .0)
-      (all .0 .1) (all .1 .0) (all .1 .1 .0 .1) (all .1 .1 .1 .0) (all .1 .1 .1 .1 .0 .1) (all .1 .1 .1 .1 .1 .0) (all .1 .1 .1 .1 .1 .1 .0 .1)
-      (all .1 .1 .1 .1 .1 .1 .1 .1 .1 .0 .1) (fmOf 𝓤 H (W .laws) 𝓣) known-put known-count known-free
+      body 𝓤 H A W mem″ run κ q (r .ptr .0) (r .ptr .1) (r .name) (r .now) c (val the-type the-laws (c .block))
+      (val domain.the-type domain-laws.the-laws (c .owner)) 𝓣 g (lawful change.the-type change-laws.the-laws 𝓤 H A W .typed c _ is .0)
+      (all .0 .1) (all .1 .0) (all .1 .1 .0 .1) (all .1 .1 .1 .1 .1 .0 .1) (fmOf 𝓤 H (W .laws) 𝓣) known-put known-count known-free
 
   walks : Walks 𝓤 H A walk.ended stayed (WpFn 𝓤 H (𝓣 .C) (𝓣 .Λ) code.function) (walk.clauses 𝓤 H A mem″ run)
   walks = walked 𝓤 H A walk.ended stayed (walk.clauses 𝓤 H A mem″ run) (WpFn 𝓤 H (𝓣 .C) (𝓣 .Λ) code.function)
