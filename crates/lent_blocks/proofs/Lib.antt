@@ -3,6 +3,7 @@ pub mod Bodies
 pub mod Chains
 pub mod Lending
 pub mod Looking
+pub mod Opening
 pub mod Putting
 pub mod Reading
 pub mod Relending

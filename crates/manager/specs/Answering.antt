@@ -8,13 +8,12 @@ use lib.ListN.{length}
 use Rattle.manager.specs.Subjects.{subjectOf}
 use Rattle.model.specs.declared.command.Command.{Command}
 use Rattle.model.specs.declared.table.Table.{Table}
+use Rattle.placements.specs.Onwards.{Finishes, MayFinish}
+use Rattle.placements.specs.declared.rest.Partial.{Partial}
 use Rattle.survey.specs.Marks.{markCount}
 use Rattle.survey.specs.Sight.{ListGathered, Views}
 use Rattle.survey.specs.declared.sight.View.{View}
-use Rattle.tables.specs.Changing.{outcomeServed}
-use Rattle.tables.specs.Serving.{ServesCommand, served}
 use Rattle.tables.specs.declared.change.Change.{Change}
-use Rattle.tables.specs.declared.change.Outcome.{Outcome}
 
 -- What was read of a table, with what the marks tell if the command lists blocks.
 pub record ReadOf (t : Table) (v : View) (marks : List ℕ) : Type 0 where
@@ -26,10 +25,11 @@ pub record ReadOf (t : Table) (v : View) (marks : List ℕ) : Type 0 where
 unfoldable pub Viewed : View → Command → List ℕ → Type 0
 Viewed v command marks = (v .subject ≡ subjectOf (v .config) command) × ((t : Table) × ReadOf t v marks)
 
--- Whatever table it was, the command is served in it.
-unfoldable pub Answered : View → Command → List ℕ → List ℕ → List ℕ → List ℕ → Outcome → List ℕ → List ℕ → List ℕ → Type 0
+-- What is left may be written; and once it is, the command is served, whatever table it was.
+unfoldable pub Answered : View → Command → List ℕ → List ℕ → List ℕ → List ℕ → Partial → List ℕ → List ℕ → List ℕ → Type 0
 Answered v command marks store words bytes r store′ words′ bytes′ =
-    (t : Table) → ReadOf t v marks → ServesCommand t command store words bytes (served (outcomeServed t r) store′ words′ bytes′)
+    MayFinish (v .config) (length store′) (length words′) r
+    × ((t : Table) → ReadOf t v marks → Finishes t command store words bytes r store′ words′ bytes′)
 
 -- Where a change's domain has its record; 16 is no domain's place.
 abbrev pub changedPlace : Change → ℕ

@@ -9,18 +9,20 @@ use domains::pulse;
 use log_pages::list;
 use log_pages::page;
 use model::Command;
+use placements::Partial;
+use placements::complete;
 use placements::write_by_placement;
 use survey::View;
 use survey::sighted;
 use tables::Change;
-use tables::Outcome;
 use tables::unchanged;
 use transfers::read;
 use transfers::write_by_block;
 ghost use mathlib.Core.Path.{_≡_};
 ghost use Rattle.manager.specs.Answering.{Answered, Viewed, changedPlace};
 
-// The command's answer and what it changes, from what was read of the table. The store, the words and the bytes are then as after it.
+// The command's answer, what it changes and what it has left to write, from what was read of the table. The store, the words and the
+// bytes are then as after it, but for what is left.
 pub(crate) fn answered(
     view: View,
     marks: &[u16],
@@ -28,7 +30,7 @@ pub(crate) fn answered(
     store: &mut [u64],
     words: &mut [u64],
     bytes: &mut [u8],
-) -> Outcome
+) -> Partial
     requires { ⌜ Viewed view command (now marks) ⌝ }
     ensures { λ r. ⌜ Answered view command (now (marks .entry)) (now (store .entry)) (now (words .entry)) (now (bytes .entry)) r (now (store .exit)) (now (words .exit)) (now (bytes .exit)) ⌝ }
 {
@@ -40,16 +42,16 @@ pub(crate) fn answered(
             quota,
             placements,
             limit,
-        } => { create(sight, domain, guarantee, quota, placements, limit) }
+        } => { complete(create(sight, domain, guarantee, quota, placements, limit)) }
         Command::ChangeCapacity {
             domain,
             guarantee,
             quota,
-        } => { change_capacity(sight, domain, guarantee, quota) }
-        Command::Delete { domain } => delete(sight, domain),
-        Command::Erase { domain, block } => erase(sight, domain, block, store),
-        Command::Close { domain, block } => close(sight, domain, block),
-        Command::Free { domain, block } => free(sight, domain, block),
+        } => { complete(change_capacity(sight, domain, guarantee, quota)) }
+        Command::Delete { domain } => complete(delete(sight, domain)),
+        Command::Erase { domain, block } => complete(erase(sight, domain, block, store)),
+        Command::Close { domain, block } => complete(close(sight, domain, block)),
+        Command::Free { domain, block } => complete(free(sight, domain, block)),
         Command::WriteByPlacement {
             domain,
             placement,
@@ -61,16 +63,18 @@ pub(crate) fn answered(
             block,
             start,
             count,
-        } => { write_by_block(sight, domain, block, start, count, store, words) }
+        } => { complete(write_by_block(sight, domain, block, start, count, store, words)) }
         Command::Read {
             domain,
             address,
             count,
             expected,
-        } => { unchanged(read(sight, domain, address, count, expected, store, words)) }
-        Command::Page { domain, block } => unchanged(page(sight, domain, block, bytes)),
-        Command::List { domain, listed } => unchanged(list(sight, domain, listed, marks, bytes)),
-        Command::Pulse { seconds } => pulse(sight, seconds),
+        } => { complete(unchanged(read(sight, domain, address, count, expected, store, words))) }
+        Command::Page { domain, block } => complete(unchanged(page(sight, domain, block, bytes))),
+        Command::List { domain, listed } => {
+            complete(unchanged(list(sight, domain, listed, marks, bytes)))
+        }
+        Command::Pulse { seconds } => complete(pulse(sight, seconds)),
     }
 }
 

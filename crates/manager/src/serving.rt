@@ -4,6 +4,7 @@ use crate::answering::changed_place;
 use crate::looking::looked;
 use crate::subjects::begun;
 use lent_blocks::change_blocks;
+use lent_blocks::write_onwards;
 use lent_domains::put_domain;
 use model::Answer;
 use model::Command;
@@ -37,12 +38,23 @@ pub fn serve_in(
         ranges,
         &mut marks,
     );
-    let outcome = answered(view, &marks, command, store, words, bytes);
+    let partial = answered(view, &marks, command, store, words, bytes);
+    let outcome = partial.outcome;
     let change = outcome.change;
     change_blocks(&mut table.blocks[..blocks], change);
+    let rest = partial.rest;
+    let owner = change.owner;
+    let new = write_onwards(
+        &mut table.blocks[..blocks],
+        config,
+        change.domain,
+        owner,
+        rest,
+        store,
+        words,
+    );
     let place = changed_place(change);
-    let changed = change.changed;
-    put_domain(&mut table.domains, place, changed);
+    put_domain(&mut table.domains, place, new);
     outcome.answer
 }
 
