@@ -6,18 +6,14 @@ use mathlib.Core.Option.{Option, none, some}
 use mathlib.Core.Path.{_≡_, refl, sym, ap, subst, _∙_}
 use lib.Dec.{eqb}
 use borrow.Author.Tests.{eqb-true, leb-true, ltb-true}
-use Rattle.blocks.proofs.Chosen.{chosen-inside, chosen-record}
-use Rattle.blocks.specs.Erasing.{blockQuestions, eraseArguments, eraseState, erasedFirst, erasedOf}
+use Rattle.blocks.specs.Erasing.{blockQuestions, eraseArguments, eraseState, erasedOf}
 use Rattle.blocks.specs.Opening.{MayOpenIn}
-use Rattle.blocks.specs.declared.erasing.Erased.{Erased}
-use Rattle.blocks.specs.declared.erasing.Erased.the-variants as erased
 use Rattle.geometry.proofs.Laws.Questions.{positive}
 use Rattle.geometry.proofs.Laws.Shape.{by-test}
 use Rattle.geometry.specs.Address.{isBlock, isDomainId}
 use Rattle.geometry.specs.Questions.{firstNo, success}
 use Rattle.geometry.specs.Shape.{storeLength}
 use Rattle.model.specs.Answers.{outcomeOf}
-use Rattle.model.specs.Blocks.{freeBlock}
 use Rattle.model.specs.declared.answer.Answer.{Answer}
 use Rattle.model.specs.declared.answer.Answer.the-variants as given
 use Rattle.model.specs.declared.block.Block.{Block}
@@ -25,6 +21,7 @@ use Rattle.model.specs.declared.block.Way.the-variants as way
 use Rattle.model.specs.declared.command.Command.the-variants.{Erase}
 use Rattle.model.specs.declared.table.Domain.{Domain}
 use Rattle.model.specs.declared.table.Table.{Table}
+use Rattle.rules.proofs.Blocks.{Choice, choice}
 use Rattle.rules.proofs.Counting.{the-first}
 use Rattle.rules.proofs.Drive.{overwritten-nothing}
 use Rattle.rules.proofs.Questions.{after, yes-in}
@@ -35,20 +32,19 @@ use Rattle.rules.specs.Effects.{Effect, Serves, effect, erasing, questions}
 use Rattle.rules.specs.Questions.{isErasable}
 use Rattle.rules.specs.Soundness.{sound}
 use Rattle.survey.proofs.Seeing.{changed-nothing, changed-opening, limits-seen, sound-limits}
-use Rattle.survey.specs.Sight.{Sees, SeesBlock, SeesChoice}
+use Rattle.survey.specs.Sight.{Sees, SeesBlock, SeesChoice, foundIn}
+use Rattle.survey.specs.declared.sight.Found.{Found}
+use Rattle.survey.specs.declared.sight.Found.the-variants as found
 use Rattle.survey.specs.declared.sight.Sight.{Sight}
 use Rattle.tables.proofs.Answering.{accepted-call, sound-verdict}
-use Rattle.tables.specs.Changes.{ErasesKnown, chosen}
 use Rattle.tables.specs.Changing.{leaving, openingChange, outcomeServed}
 use Rattle.tables.specs.Serving.{ServesCommand, answering, drive, served}
-use Rattle.tables.specs.declared.choice.Choice.{Choice}
-use Rattle.tables.specs.declared.choice.Choice.the-variants as choice
 
 -- ---- The questions
 
 -- The record that is seen is asked for no block but one that is named, and for none of another drive: the range comes first.
-pub erase-asked : (t : Table) (store : List ℕ) (entries words bytes d n : ℕ) (x : Sight) → Sees t d x → SeesBlock t n x → x .sound ≡ true
-    → firstNo (eraseArguments x entries d n ++ eraseState t x d n)
+pub erase-asked : (t : Table) (store : List ℕ) (entries words bytes d n : ℕ) (x : Sight) → Sees t d x → (eqb n anyBlock ≡ false → SeesBlock t n x)
+    → x .sound ≡ true → firstNo (eraseArguments x entries d n ++ eraseState t x d n)
     ≡ firstNo (after 2 (questions (drive t store) (lending (Erase d n) entries words bytes)))
 unfolding firstNo questions eraseArguments eraseState blockQuestions
 erase-asked t store entries words bytes d n x s b e =
@@ -56,33 +52,32 @@ erase-asked t store entries words bytes d n x s b e =
     (λ id. rw (s .opens e id) (by-test (eqb n anyBlock)
     (λ any. rw any)
     (λ other. by-test (isBlock (t .config) n)
-    (λ q. rw (b .same-block e (ltb-true n (size t) q)))
+    (λ q. rw (b other .same-block e (ltb-true n (size t) q)))
     (λ q. rw (q, other)))))
     (λ id. rw id))
 
 -- ---- The block
 
 -- What Erase is to open, with its record.
-abbrev pub Opens : Table → ℕ → Erased → Type 0
-Opens t n erased.Nothing = erasedBlock t n ≡ none
-Opens t n (erased.Block m b) = (erasedBlock t n ≡ some m) × (blockAt t m ≡ b)
+abbrev pub Opens : Table → ℕ → Block → Found → Type 0
+Opens t n b found.Nothing = erasedBlock t n ≡ none
+Opens t n b (found.Block m) = (erasedBlock t n ≡ some m) × (blockAt t m ≡ b)
 
-first-opens : (t : Table) (n : ℕ) (c : Choice) → sound t ≡ true → eqb n anyBlock ≡ true → chosen c ≡ chosenBlock t → ErasesKnown t c
-    → Opens t n (erasedFirst c)
-first-opens t n choice.Nothing whole any same known = rw any (sym same)
-first-opens t n (choice.Block m erases) whole any same known =
-    (rw any (sym same), chosen-record t m whole (sym same) ∙ ap freeBlock (sym known))
+chosen-opens : (t : Table) (n : ℕ) (b : Block) (f : Found) → eqb n anyBlock ≡ true → foundIn f ≡ chosenBlock t
+    → ((m : ℕ) → chosenBlock t ≡ some m → b ≡ blockAt t m) → Opens t n b f
+chosen-opens t n b found.Nothing any same is = rw any (sym same)
+chosen-opens t n b (found.Block m) any same is = (rw any (sym same), sym (is m (sym same)))
 
 number-inside : (t : Table) (n : ℕ) → isErasable t n ≡ true → eqb n anyBlock ≡ false → n < size t
 number-inside t n range other = ltb-true n (size t) (the-first (isBlock (t .config) n) (eqb n anyBlock) range other)
 
-pub opens : (t : Table) (d n : ℕ) (x : Sight) → Sees t d x → SeesBlock t n x → (eqb n anyBlock ≡ true → SeesChoice t x) → x .sound ≡ true
-    → isErasable t n ≡ true → Opens t n (erasedOf x n)
+pub opens : (t : Table) (d n : ℕ) (x : Sight) → Sees t d x → (eqb n anyBlock ≡ false → SeesBlock t n x)
+    → (eqb n anyBlock ≡ true → SeesChoice t x) → x .sound ≡ true → isErasable t n ≡ true → Opens t n (x .block) (erasedOf x n)
 unfolding erasedOf
 opens t d n x s b f e range =
     by-test (eqb n anyBlock)
-    (λ any. rw any (first-opens t n (x .first) (sym (s .tested) ∙ e) any (f any .first-chosen e) (f any .first-erases e)))
-    (λ other. rw other (rw other refl, sym (b .same-block e (number-inside t n range other))))
+    (λ any. rw any (chosen-opens t n (x .block) (x .found) any (f any .same-found e) (f any .found-block e)))
+    (λ other. rw other (rw other refl, sym (b other .same-block e (number-inside t n range other))))
 
 -- It is one of the drive.
 abbrev numberIn : Option ℕ → ℕ
@@ -92,7 +87,7 @@ numberIn (some n) = n
 pub opens-inside : (t : Table) (n m : ℕ) → isErasable t n ≡ true → erasedBlock t n ≡ some m → m < size t
 opens-inside t n m range e =
     by-test (eqb n anyBlock)
-    (λ any. chosen-inside t m (rw any at e) .inside)
+    (λ any. subst (Choice t (size t)) (rw any at e) (choice t (size t)) .inside)
     (λ other. subst (λ (k : ℕ). k < size t) (ap numberIn (rw other at e)) (number-inside t n range other))
 
 -- ---- What it may and does

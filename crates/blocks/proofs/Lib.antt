@@ -1,4 +1,3 @@
 -- Laws that the functions' proofs share.
 pub mod Named
-pub mod Chosen
 pub mod Erased

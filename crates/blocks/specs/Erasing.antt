@@ -3,20 +3,17 @@ use Prim.Native.Nat.{ℕ}
 use mathlib.Core.Bool.{Bool, not, _&&_, _||_, cond}
 use mathlib.Core.List.{List, [], _∷_, _++_}
 use lib.Dec.{eqb, ltb}
-use Rattle.blocks.specs.declared.erasing.Erased.{Erased}
-use Rattle.blocks.specs.declared.erasing.Erased.the-variants as erased
 use Rattle.geometry.specs.Address.{isBlock, isDomainId}
 use Rattle.geometry.specs.Questions.{Question, ask}
 use Rattle.geometry.specs.Shape.{storeLength}
-use Rattle.model.specs.Blocks.{freeBlock}
 use Rattle.model.specs.declared.table.Table.{Table}
 use Rattle.rules.specs.Blocks.{anyBlock}
 use Rattle.rules.specs.Counting.{implies}
 use Rattle.rules.specs.Drive.{heldBy, isClosed, isFree}
+use Rattle.survey.specs.declared.sight.Found.{Found}
+use Rattle.survey.specs.declared.sight.Found.the-variants as found
 use Rattle.survey.specs.declared.sight.Sight.{Sight}
 use Rattle.tables.specs.Verdicts.{newBlocksQuestions}
-use Rattle.tables.specs.declared.choice.Choice.{Choice}
-use Rattle.tables.specs.declared.choice.Choice.the-variants as choice
 
 -- ---- The questions
 
@@ -50,10 +47,6 @@ eraseState t x d n =
 
 -- ---- The block that is opened
 
--- For FFFFFFFFh the chosen one, if there is one, and else that of the number, with its record.
-abbrev pub erasedFirst : Choice → Erased
-erasedFirst choice.Nothing = erased.Nothing
-erasedFirst (choice.Block n erases) = erased.Block n (freeBlock erases)
-
-unfoldable pub erasedOf : Sight → ℕ → Erased
-erasedOf x n = cond (eqb n anyBlock) (erasedFirst (x .first)) (erased.Block n (x .block))
+-- For FFFFFFFFh the chosen one, if there is one, and else that of the number.
+unfoldable pub erasedOf : Sight → ℕ → Found
+erasedOf x n = cond (eqb n anyBlock) (x .found) (found.Block n)

@@ -2,13 +2,11 @@
 use crate::opening::new_blocks_verdict;
 use crate::opening::opened_for;
 use model::Answer;
-use model::Block;
 use model::Refusal;
 use model::Way;
-use model::free_block;
+use survey::Found;
 use survey::Sight;
 use survey::store_verdict;
-use tables::Choice;
 use tables::Outcome;
 use tables::Verdict;
 use tables::ask;
@@ -19,7 +17,7 @@ use tables::may_open;
 use tables::opening_change;
 use tables::refusal;
 use tables::unchanged;
-ghost use mathlib.Core.Bool.{true};
+ghost use mathlib.Core.Bool.{false, true};
 ghost use mathlib.Core.List.{List, _++_};
 ghost use mathlib.Core.Path.{_≡_};
 ghost use Prim.Native.Nat.{ℕ, _≤_};
@@ -95,31 +93,20 @@ fn erase_verdict(sight: Sight, domain: u64, block: u64, entries: usize) -> Verdi
 
 // ---- The change
 
-// The block that Erase opens, its number and its record.
-enum Erased {
-    Nothing,
-    Block(u64, Block),
-}
-
-// That of the number, or for FFFFFFFFh the chosen one.
-fn erased_block(sight: Sight, block: u64) -> Erased
+// The block that Erase opens: that of the number, or for FFFFFFFFh the chosen one.
+fn erased_block(sight: Sight, block: u64) -> Found
     ensures { λ r. ⌜ r ≡ erasedOf sight block ⌝ }
 {
     if block == ANY_BLOCK {
-        let first = sight.first;
-        return match first {
-            Choice::Nothing => Erased::Nothing,
-            Choice::Block(n, erases) => Erased::Block(n, free_block(erases)),
-        };
+        return sight.found;
     }
-    let b = sight.block;
-    Erased::Block(block, b)
+    Found::Block(block)
 }
 
 // Opens a block with entries of all ones. Where none is found none is opened.
 pub fn erase(sight: Sight, domain: u64, block: u64, store: &mut [u64]) -> Outcome
-    requires { ⌜ ((t : Table) × Sees t domain sight × SeesBlock t block sight × (eqb block anyBlock ≡ true → SeesChoice t sight)) ⌝ }
-    ensures { λ r. ⌜ ((t : Table) (words bytes : List ℕ) → Sees t domain sight → SeesBlock t block sight → (eqb block anyBlock ≡ true → SeesChoice t sight) → ServesCommand t (Erase domain block) (now (store .entry)) words bytes (served (outcomeServed t r) (now (store .exit)) words bytes)) ⌝ }
+    requires { ⌜ ((t : Table) × Sees t domain sight × (eqb block anyBlock ≡ false → SeesBlock t block sight) × (eqb block anyBlock ≡ true → SeesChoice t sight)) ⌝ }
+    ensures { λ r. ⌜ ((t : Table) (words bytes : List ℕ) → Sees t domain sight → (eqb block anyBlock ≡ false → SeesBlock t block sight) → (eqb block anyBlock ≡ true → SeesChoice t sight) → ServesCommand t (Erase domain block) (now (store .entry)) words bytes (served (outcomeServed t r) (now (store .exit)) words bytes)) ⌝ }
 {
     if !sight.sound {
         return refusal(Refusal::Unsound);
@@ -127,10 +114,11 @@ pub fn erase(sight: Sight, domain: u64, block: u64, store: &mut [u64]) -> Outcom
     match erase_verdict(sight, domain, block, store.len()) {
         Verdict::No(reason) => refusal(reason),
         Verdict::Pass => match erased_block(sight, block) {
-            Erased::Nothing => unchanged(Answer::Done),
-            Erased::Block(n, b) => {
+            Found::Nothing => unchanged(Answer::Done),
+            Found::Block(n) => {
                 let config = sight.config;
                 let owner = sight.domain;
+                let b = sight.block;
                 let opened = opened_for(config, owner, domain, Way::Erase, n, b, store);
                 let new = opened.block;
                 let after = opened.owner;

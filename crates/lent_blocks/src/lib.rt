@@ -7,12 +7,12 @@ use model::Domain;
 use placements::Rest;
 use placements::fill_next;
 use placements::nothing_left;
-use survey::Candidates;
+use survey::Candidate;
 use survey::Subject;
 use survey::chain_before;
 use survey::choose;
 use survey::holder_index;
-use survey::no_candidates;
+use survey::no_candidate;
 use survey::not_sound;
 use survey::put_listed;
 use survey::same_serial;
@@ -28,7 +28,7 @@ ghost use Rattle.rules.specs.Drive.{clearBlock};
 ghost use Rattle.placements.specs.Onwards.{MayGoOn, OpenedNext, WrittenOn};
 ghost use Rattle.tables.specs.Changing.{changedBlocks, presentBlocks};
 ghost use Rattle.survey.specs.Marks.{markCount};
-ghost use Rattle.survey.specs.Free.{Chosen, noCandidates};
+ghost use Rattle.survey.specs.Free.{Chosen, noCandidate};
 ghost use Rattle.survey.specs.Listing.{listedFrom};
 ghost use Rattle.survey.specs.Scan.{Walked, chainPasses};
 
@@ -80,12 +80,12 @@ pub fn scan_blocks(
     true
 }
 
-// The Free blocks to be opened next, among so many.
-pub fn choose_free(blocks: &[Block], most: usize) -> Candidates
+// The Free block to be opened next, among so many.
+pub fn choose_free(blocks: &[Block], most: usize) -> Candidate
     requires { ⌜ (most ≤ length (now blocks)) × (length (now blocks) ≤ 256) ⌝ }
-    ensures { λ r. ⌜ Chosen 0 (take most (now (blocks .entry))) noCandidates r ⌝ }
+    ensures { λ r. ⌜ Chosen 0 (take most (now (blocks .entry))) noCandidate r ⌝ }
 {
-    let mut best = no_candidates();
+    let mut best = no_candidate();
     let mut n = 0;
     while n < most {
         let block = blocks[n];

@@ -47,7 +47,7 @@ right-subject t (Delete d) = with-config t d false 0 false false listed.Open
 right-subject t (Erase d n) = with-config t d false n (eqb n anyBlock) false listed.Open
 right-subject t (Close d n) = with-config t d false n false false listed.Open
 right-subject t (Free d n) = with-config t d false n false false listed.Open
-right-subject t (WriteByPlacement d p start count) = with-config t d true p true false listed.Open
+right-subject t (WriteByPlacement d p start count) = with-config t d true p false false listed.Open
 right-subject t (WriteByBlock d n start count) = with-config t d false n false false listed.Open
 right-subject t (Read d address count expected) =
     with-config t d false (cond (withinLimits (t .config)) (fieldsOf (t .config) address .block) 0) false false listed.Open
@@ -60,9 +60,9 @@ right-subject t (Pulse seconds) = with-config t 0 false 0 false false listed.Ope
 -- Of a table, with a subject that is right for it.
 pub record Sights (t : Table) (s : Subject) (marks : List ℕ) (r : Sight) : Type 0 where
   pub sees : Sees t (s .domain) r
-  pub names : s .placing ≡ false → SeesBlock t (s .number) r
+  pub names : s .placing ≡ false → s .choosing ≡ false → SeesBlock t (s .number) r
   pub places : s .placing ≡ true → SeesPlacement t (s .domain) (s .number) r
-  pub chooses : s .choosing ≡ true → SeesChoice t r
+  pub chooses : s .placing ≡ false → s .choosing ≡ true → SeesChoice t r
   pub lists : s .listing ≡ true → SeesList t (s .domain) (s .listed) r marks
 
 -- Of every table that is viewed so.

@@ -37,7 +37,7 @@ abbrev pub named : Config → ℕ → ℕ → Bool → Subject
 named c d n choosing = subjectWith c d false n choosing false listed.Open
 
 abbrev pub placed : Config → ℕ → ℕ → Subject
-placed c d p = subjectWith c d true p true false listed.Open
+placed c d p = subjectWith c d true p false false listed.Open
 
 abbrev pub listing : Config → ℕ → Listed → Subject
 listing c d which = subjectWith c d false 0 false true which

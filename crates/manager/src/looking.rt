@@ -19,8 +19,8 @@ ghost use lib.ListN.{length};
 ghost use Rattle.manager.specs.Looking.{Looked};
 ghost use Rattle.survey.specs.Marks.{markCount};
 
-// The scan of the blocks and that of the domains, and what they counted; the records of the domain and of the block that the command is
-// about; the Free blocks to be opened next and the list, if they are asked for.
+// The scan of the blocks and that of the domains, and what they counted; the records of the domain and of the block that
+// the command is about, which may be the Free block to be opened next; and the list, if it is asked for.
 pub(crate) fn looked(
     blocks: &[Block],
     domains: &[Domain],
@@ -34,11 +34,11 @@ pub(crate) fn looked(
 {
     let sound = scan_blocks(blocks, domains, subject, marks);
     let covering = pass_domains(domains, config.blocks, marks);
-    let tally = tally_of(subject, marks);
+    let free = choose_free(blocks, ranges.free);
+    let tally = tally_of(subject, free.number, marks);
     let block = block_at(blocks, tally.number);
     let at = place(subject);
     let domain = domain_at(domains, at);
-    let free = choose_free(blocks, ranges.free);
     gather_list(blocks, ranges.list, subject, marks);
     View {
         config,
@@ -46,7 +46,6 @@ pub(crate) fn looked(
         sound,
         covering,
         tally,
-        free,
         domain,
         block,
     }

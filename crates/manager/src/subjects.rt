@@ -33,7 +33,7 @@ fn plain(config: Config, domain: u64) -> Subject
     }
 }
 
-// .. and a block that is named, or may be left to the choice, ..
+// .. and a block that is named, or left to the choice, ..
 fn named(config: Config, domain: u64, number: u64, choosing: bool) -> Subject
     ensures { λ r. ⌜ r ≡ named config domain number choosing ⌝ }
 {
@@ -47,7 +47,7 @@ fn named(config: Config, domain: u64, number: u64, choosing: bool) -> Subject
 fn placed(config: Config, domain: u64, placement: u64) -> Subject
     ensures { λ r. ⌜ r ≡ placed config domain placement ⌝ }
 {
-    let mut subject = named(config, domain, placement, true);
+    let mut subject = named(config, domain, placement, false);
     subject.placing = true;
     subject
 }

@@ -89,7 +89,7 @@ may-place t entries room d p start count x s q e pass =
     let new = blocksIn (x .config) (count .0 - roomSeen x) in
     let counted = is-between 1 256 (count .0) (both (ltb p (x .domain .placements)) (isCount count) (yes-in 6 qs refl pass) .1) in
     let whole = sym (s .tested) ∙ e in
-    let opened : (n : ℕ) → x .found ≡ found.Block n → openBlock t d p ≡ some n = λ n f. sym (q .same-open e) ∙ ap foundIn f in
+    let opened : (n : ℕ) → x .found ≡ found.Block n → openBlock t d p ≡ some n = λ n f. sym (q .same-found e) ∙ ap foundIn f in
     let last : x .domain .last ≡ domainAt t d .last = ap (λ (r : Domain). r .last) (s .same-domain) in
     record {
       within = limits-seen t d x s e;
@@ -102,7 +102,7 @@ may-place t entries room d p start count x s q e pass =
           let o = is-open-to t d p n (opened n f) in
           let l = placed-room t p (blockAt t n .state) (blockAt t n) (o .2) (facts-of (drive t []) whole .blocks n (o .0)) in
           let room-of = ap (λ (c : Config). adusPerBlock c .0) (s .same-config) in
-          let here = ap (λ (b : Block). b .written .0) (q .open-block e n (opened n f)) in
+          let here = ap (λ (b : Block). b .written .0) (q .found-block e n (opened n f)) in
           omega (arith, l, room-of, here);
     }
 
@@ -111,8 +111,8 @@ pub places : (t : Table) (d p : ℕ) (x : Sight) → Sees t d x → SeesPlacemen
 places t d p x s q e = record {
   same-config = sym (s .same-config);
   same-owner = sym (s .same-domain);
-  is-open = q .same-open e;
-  seen = record { open-record = λ n is. sym (q .open-block e n (sym (q .same-open e) ∙ is)) };
+  is-open = q .same-found e;
+  seen = record { open-record = λ n is. sym (q .found-block e n (sym (q .same-found e) ∙ is)) };
 }
 
 -- .. and this is what it hands back.

@@ -35,12 +35,12 @@ module _ (t : Table) (d p : ℕ) (x : Sight) (s : Sees t d x) (q : SeesPlacement
   -- The room of the open block is the rules', ..
   room-seen : (o : Found) → x .found ≡ o → roomSeen x ≡ roomIn t (openBlock t d p)
   room-seen found.Nothing f =
-      ap (λ (o : Found). roomOf o (x .config) (x .block)) f ∙ sym (ap (roomIn t) (sym (q .same-open e) ∙ ap foundIn f))
+      ap (λ (o : Found). roomOf o (x .config) (x .block)) f ∙ sym (ap (roomIn t) (sym (q .same-found e) ∙ ap foundIn f))
   room-seen (found.Block n) f =
-      let is-open : openBlock t d p ≡ some n = sym (q .same-open e) ∙ ap foundIn f in
+      let is-open : openBlock t d p ≡ some n = sym (q .same-found e) ∙ ap foundIn f in
       ap (λ (o : Found). roomOf o (x .config) (x .block)) f
       ∙ ap (λ (c : Config). adusPerBlock c .0 - x .block .written .0) (s .same-config)
-      ∙ ap (λ (b : Block). adusPerBlock (t .config) .0 - b .written .0) (q .open-block e n is-open)
+      ∙ ap (λ (b : Block). adusPerBlock (t .config) .0 - b .written .0) (q .found-block e n is-open)
       ∙ sym (ap (roomIn t) is-open)
 
   -- .. and so are the blocks that the write opens ..
@@ -56,10 +56,10 @@ module _ (t : Table) (d p : ℕ) (x : Sight) (s : Sees t d x) (q : SeesPlacement
       ap (λ (o : Found). mayOpenOf o (x .opened) (x .domain)) f
       ∙ ap (λ (opened : ℕ). ltb opened (x .domain .limit)) (s .opens e id)
       ∙ ap (λ (r : Domain). ltb (openCount t d) (r .limit)) (s .same-domain)
-      ∙ sym (ap (λ o. mayOpenFor o t d) (sym (q .same-open e) ∙ ap foundIn f))
+      ∙ sym (ap (λ o. mayOpenFor o t d) (sym (q .same-found e) ∙ ap foundIn f))
   may-open-seen id (found.Block n) f =
       ap (λ (o : Found). mayOpenOf o (x .opened) (x .domain)) f
-      ∙ sym (ap (λ o. mayOpenFor o t d) (sym (q .same-open e) ∙ ap foundIn f))
+      ∙ sym (ap (λ o. mayOpenFor o t d) (sym (q .same-found e) ∙ ap foundIn f))
 
   pub placement-asked : (store : List ℕ) (entries room bytes start : ℕ) (count : Adus)
       → firstNo (placementArguments x entries room d p count ++ placementState t x d start count)

@@ -2,29 +2,28 @@
 use Prim.Native.Nat.{ℕ, zero, suc, _+_, _-_, _<_, _≤_}
 use mathlib.Core.Bool.{Bool, true, false, true≢false, _&&_, cond}
 use mathlib.Core.List.{List}
-use mathlib.Core.Option.{some}
+use mathlib.Core.Option.{Option, some}
 use mathlib.Core.Path.{_≡_, refl, sym, ap, _∙_, subst}
 use native.Mathlib.Omega.{arith}
 use lib.Dec.{leb, ltb}
 use lib.ListN.{getD, length, length-replicate, replicate}
 use lib.Seq.{getD-take, length-take-le}
 use Rattle.geometry.proofs.Laws.Shape.{both, by-test, is-between, limits}
-use Rattle.geometry.specs.Address.{isDomainId}
 use Rattle.geometry.specs.Shape.{withinLimits}
-use Rattle.model.specs.declared.block.Block.{Block}
 use Rattle.model.specs.declared.table.Table.{Table}
+use Rattle.rules.proofs.Blocks.{Choice, choice}
 use Rattle.rules.proofs.Counting.{all-none, sum-none}
-use Rattle.rules.specs.Blocks.{chosenTo}
+use Rattle.rules.specs.Blocks.{chosenBlock, chosenTo}
 use Rattle.rules.specs.Drive.{blockAt, clearBlock, heldCount, openBlock, openCount, size}
 use Rattle.rules.specs.Soundness.{sound}
-use Rattle.survey.proofs.Choices.{Two, chosen-two}
+use Rattle.survey.proofs.Choices.{chosen-found}
 use Rattle.survey.proofs.Passing.{Told, none-some, open-inside, open-told, passed-by, picked, some-same, walked-told}
 use Rattle.survey.proofs.Seeing.{all-present}
 use Rattle.survey.proofs.Steps.{About, Marked}
 use Rattle.survey.proofs.Surveying.{Counts, covers, outside-unsound, scan-sound, sound-blocks}
 use Rattle.survey.specs.Clauses.{blocksSound, lastTo}
 use Rattle.survey.specs.Marks.{mark, markCount, noMarks}
-use Rattle.survey.specs.Sight.{BlocksScanned, Sees, Sighted, SubjectOf, Views, choiceOf, countOf, foundIn, foundOf, openAt, present}
+use Rattle.survey.specs.Sight.{BlocksScanned, Sees, SeesFound, Sighted, SubjectOf, Views, foundIn, foundOf, openAt, present}
 use Rattle.survey.specs.declared.scan.Subject.{Subject}
 use Rattle.survey.specs.declared.sight.Found.{Found}
 use Rattle.survey.specs.declared.sight.Sight.{Sight}
@@ -97,8 +96,6 @@ pub record Made (t : Table) (v : View) (r : Sight) : Type 0 where
   pub coverage-is : r .coverage ≡ v .covering .coverage
   pub found-is : r .found ≡ foundOf (v .tally .number)
   pub block-is : r .block ≡ v .block
-  pub first-is : r .first ≡ choiceOf (v .free .first)
-  pub second-is : r .second ≡ choiceOf (v .free .second)
 
 -- The counts in the marks are the table's.
 counts : (t : Table) (ms : List ℕ) → Marked t (size t) ms → Counts t (mark ms) (λ i. mark ms (16 + i))
@@ -112,6 +109,9 @@ module _ {t : Table} {v : View} {r : Sight} (a : SubjectOf t (v .subject)) (p : 
 
   abbrev ms : List ℕ
   ms = p .marks
+
+  abbrev chosen : ℕ
+  chosen = p .free .number
 
   -- The tests are those of soundness.
   tested-sound : r .sound ≡ sound t
@@ -160,33 +160,28 @@ module _ {t : Table} {v : View} {r : Sight} (a : SubjectOf t (v .subject)) (p : 
   block-there : r .sound ≡ true → (n : ℕ) → v .tally .number ≡ n → n < size t → r .block ≡ blockAt t n
   block-there y n is l = made .block-is ∙ p .same-block ∙ ap (λ (i : ℕ). getD (present t) i clearBlock) is ∙ there y .records n l
 
-  -- The number that the view has of it: the one that is named, ..
-  named-is : s .placing ≡ false → v .tally .number ≡ s .number
-  named-is e = ap (λ x. x .number) (p .tallied) ∙ passed-by (s .placing) (openAt ms (s .domain) (s .number)) (s .number) e
-
-  -- .. or that of the placement's open block.
+  -- The number that the view has of it: that of the placement's open block, ..
   placed-is : s .placing ≡ true → v .tally .number ≡ openAt ms (s .domain) (s .number)
-  placed-is e = ap (λ x. x .number) (p .tallied) ∙ picked (s .placing) (openAt ms (s .domain) (s .number)) (s .number) e
+  placed-is e = ap (λ x. x .number) (p .tallied) ∙ picked (s .placing) (openAt ms (s .domain) (s .number)) (cond (s .choosing) chosen (s .number)) e
 
   open-is : s .placing ≡ true → r .sound ≡ true → foundIn (foundOf (v .tally .number)) ≡ openBlock t (s .domain) (s .number)
   open-is e y = ap (λ (n : ℕ). foundIn (foundOf n)) (placed-is e)
       ∙ open-told t (s .domain) (s .number) ms (sym tested-sound ∙ y) (there y .most) (sound-marked y .1)
 
-  -- The two Free blocks to be opened next.
-  two-chosen : s .choosing ≡ true → r .sound ≡ true → Two t (size t) (r .first) (r .second)
-  unfolding chosenTo
-  two-chosen c y =
+  -- .. that of the chosen one, ..
+  not-placed : s .placing ≡ false → v .tally .number ≡ cond (s .choosing) chosen (s .number)
+  not-placed e = ap (λ x. x .number) (p .tallied) ∙ passed-by (s .placing) (openAt ms (s .domain) (s .number)) (cond (s .choosing) chosen (s .number)) e
+
+  chosen-is : s .placing ≡ false → s .choosing ≡ true → r .sound ≡ true → foundIn (foundOf (v .tally .number)) ≡ chosenBlock t
+  chosen-is e c y =
       let q = there y in
-      rw (made .first-is, made .second-is) (subst (λ (k : ℕ). Two t k (choiceOf (v .free .first)) (choiceOf (v .free .second)))
-      (zero-first (length (present t)) ∙ q .long)
-      (chosen-two t 0 (present t) _ (v .free)
-      (λ i l. ap (blockAt t) (zero-first i) ∙ sym (q .records i (omega (arith, l, q .long)))) (record {
-        first = refl;
-        first-known = tt;
-        second = λ m u e. absurd (none-some m e);
-        second-known = tt;
-        none-second = λ _. refl;
-      }) (p .chosen c)))
+      ap (λ (n : ℕ). foundIn (foundOf n)) (not-placed e ∙ picked (s .choosing) chosen (s .number) c)
+      ∙ chosen-found t (present t) (p .free) (omega (arith, q .long, q .most)) (λ i l. sym (q .records i (omega (arith, l, q .long)))) (p .chosen c)
+      ∙ ap (chosenTo t) (q .long)
+
+  -- .. or the one that is named.
+  named-is : s .placing ≡ false → s .choosing ≡ false → v .tally .number ≡ s .number
+  named-is e c = not-placed e ∙ passed-by (s .choosing) chosen (s .number) c
 
 -- ---- All together
 
@@ -196,27 +191,25 @@ found-number f n e = by-test (ltb f 256)
     (λ l. some-same f n (sym (rw l) ∙ e))
     (λ l. absurd (none-some n (sym (rw l) ∙ e)))
 
+-- The chosen block is one of the drive's.
+chosen-inside : (t : Table) (n : ℕ) → chosenBlock t ≡ some n → n < size t
+chosen-inside t n e = subst (Choice t (size t)) e (choice t (size t)) .inside
+
 module _ {t : Table} {v : View} {r : Sight} (p : Views t v) (made : Made t v r) where
   abbrev d : Subject
   d = v .subject
 
+  -- A block that is looked for, with its record.
+  found-as : SubjectOf t d → (o : Option ℕ) → (r .sound ≡ true → foundIn (foundOf (v .tally .number)) ≡ o) → ((n : ℕ) → o ≡ some n → n < size t) → SeesFound t o r
+  found-as a o is inside = record {
+    same-found = λ y. ap (λ (f : Found). foundIn f) (made .found-is) ∙ is y;
+    found-block = λ y n e. block-there a p made y n (found-number (v .tally .number) n (is y ∙ e)) (inside n e);
+  }
+
   pub sighted-as : Sighted t d r
   sighted-as = record {
     sees = λ a. sees-table a p made;
-    names = λ a e. record { same-block = λ y l. block-there a p made y (d .number) (named-is a p made e) l };
-    places = λ a e. record {
-      same-open = λ y. ap (λ (f : Found). foundIn f) (made .found-is) ∙ open-is a p made e y;
-      open-block = λ y n is.
-          block-there a p made y n (found-number (v .tally .number) n (open-is a p made e y ∙ is)) (open-inside t (d .domain) (d .number) (size t) n is);
-    };
-    chooses = λ a e.
-        let two = two-chosen a p made e in
-        record {
-          first-chosen = λ y. two y .first;
-          first-erases = λ y. two y .first-known;
-          second-chosen = λ y n u is same-size free same. two y .second n u is free same ∙ ap (chosenTo u) (sym same-size);
-          second-erases = λ y. two y .second-known;
-          second-none = λ y. two y .none-second;
-          whole = λ y. omega (arith, p .scanned .records, there a p made y .most);
-        };
+    names = λ a e c. record { same-block = λ y l. block-there a p made y (d .number) (named-is a p made e c) l };
+    places = λ a e. found-as a (openBlock t (d .domain) (d .number)) (open-is a p made e) (λ n. open-inside t (d .domain) (d .number) (size t) n);
+    chooses = λ a e c. found-as a (chosenBlock t) (chosen-is a p made e c) (chosen-inside t);
   }

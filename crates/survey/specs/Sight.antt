@@ -1,5 +1,5 @@
 -- What a command sees of a table.
-use Prim.Native.Nat.{ℕ, _+_, _-_, _<_, _≤_, max}
+use Prim.Native.Nat.{ℕ, _+_, _-_, _<_, max}
 use mathlib.Core.Bool.{Bool, true, false, _&&_, cond}
 use mathlib.Core.List.{List}
 use mathlib.Core.Option.{Option, none, some}
@@ -10,11 +10,10 @@ use Rattle.geometry.specs.Address.{isDomainId}
 use Rattle.geometry.specs.Shape.{adusPerBlock, withinLimits}
 use Rattle.survey.specs.Clauses.{coveredTo, domainsSound, placeFor}
 use Rattle.survey.specs.Marks.{mark, markCount, noMarks}
-use Rattle.survey.specs.Free.{Chosen, noCandidates}
+use Rattle.survey.specs.Free.{Chosen, noCandidate}
 use Rattle.survey.specs.Listing.{byteTold, indexTold, isListed, listMark, listedFrom}
 use Rattle.survey.specs.Scan.{Walked}
 use Rattle.survey.specs.declared.free.Candidate.{Candidate}
-use Rattle.survey.specs.declared.free.Candidates.{Candidates}
 use Rattle.survey.specs.declared.scan.Subject.{Subject}
 use Rattle.survey.specs.declared.sight.Covering.{Covering}
 use Rattle.survey.specs.declared.sight.Found.{Found}
@@ -28,21 +27,14 @@ use Rattle.model.specs.declared.table.Domain.{Domain}
 use Rattle.model.specs.declared.table.Table.{Table}
 use Rattle.rules.specs.Blocks.{chosenBlock}
 use Rattle.rules.specs.Domains.{coverage, reservedBy}
-use Rattle.rules.specs.Drive.{blockAt, clearBlock, domainAt, heldCount, isFree, openBlock, openCount, size}
+use Rattle.rules.specs.Drive.{blockAt, clearBlock, domainAt, heldCount, openBlock, openCount, size}
 use Rattle.rules.specs.LogPages.{wearIndex}
 use Rattle.rules.specs.Soundness.{domainSound, sound}
-use Rattle.tables.specs.Changes.{ErasesKnown, chosen}
 use Rattle.tables.specs.Changing.{presentBlocks}
-use Rattle.tables.specs.declared.choice.Choice.{Choice}
-use Rattle.tables.specs.declared.choice.Choice.the-variants as choice
 
--- What the scan carries as numbers: a block's number, 256 being none, ..
+-- A block's number, 256 being none.
 abbrev pub foundOf : ℕ → Found
 foundOf n = cond (ltb n 256) (FoundBlock n) Nothing
-
--- .. and a candidate, with 2^32 erases none.
-abbrev pub choiceOf : Candidate → Choice
-choiceOf c = cond (ltb (c .erases) 4294967296) (choice.Block (c .number) (c .erases)) choice.Nothing
 
 abbrev pub foundIn : Found → Option ℕ
 foundIn Nothing = none
@@ -61,25 +53,17 @@ pub record Sees (t : Table) (d : ℕ) (x : Sight) : Type 0 where
 pub record SeesBlock (t : Table) (n : ℕ) (x : Sight) : Type 0 where
   pub same-block : x .sound ≡ true → n < size t → x .block ≡ blockAt t n
 
--- Two tables with the same Free blocks, as far as the choice goes, but for block n.
-abbrev pub SameFree : Table → Table → ℕ → ℕ → Type 0
-SameFree t u size n = (i : ℕ) → i < size → ¬ (i ≡ n)
-    → (isFree (blockAt u i) ≡ isFree (blockAt t i)) × (blockAt u i .erases ≡ blockAt t i .erases)
+-- The block that is looked for, if there is one, and its record.
+pub record SeesFound (t : Table) (o : Option ℕ) (x : Sight) : Type 0 where
+  pub same-found : x .sound ≡ true → foundIn (x .found) ≡ o
+  pub found-block : x .sound ≡ true → (n : ℕ) → o ≡ some n → x .block ≡ blockAt t n
 
--- The Free block that is opened next, and the one after it, once the first is no longer Free.
-pub record SeesChoice (t : Table) (x : Sight) : Type 0 where
-  pub first-chosen : x .sound ≡ true → chosen (x .first) ≡ chosenBlock t
-  pub first-erases : x .sound ≡ true → ErasesKnown t (x .first)
-  pub second-chosen : x .sound ≡ true → (n : ℕ) (u : Table) → chosen (x .first) ≡ some n → size u ≡ size t
-      → isFree (blockAt u n) ≡ false → SameFree t u (size t) n → chosen (x .second) ≡ chosenBlock u
-  pub second-erases : x .sound ≡ true → ErasesKnown t (x .second)
-  pub second-none : x .sound ≡ true → chosen (x .first) ≡ none → x .second ≡ choice.Nothing
-  pub whole : x .sound ≡ true → size t ≤ length (t .blocks)
+-- It is the one that a placement has open, or the Free one that is opened next.
+abbrev pub SeesPlacement : Table → ℕ → ℕ → Sight → Type 0
+SeesPlacement t d p x = SeesFound t (openBlock t d p) x
 
--- The block that a placement has open, and its record.
-pub record SeesPlacement (t : Table) (d p : ℕ) (x : Sight) : Type 0 where
-  pub same-open : x .sound ≡ true → foundIn (x .found) ≡ openBlock t d p
-  pub open-block : x .sound ≡ true → (n : ℕ) → openBlock t d p ≡ some n → x .block ≡ blockAt t n
+abbrev pub SeesChoice : Table → Sight → Type 0
+SeesChoice t x = SeesFound t (chosenBlock t) x
 
 -- Some table is seen so.
 abbrev pub Seen : ℕ → Sight → Type 0
@@ -131,35 +115,33 @@ countOf marks from d = cond (isDomainId d) (mark marks (from + (d - 1))) 0
 abbrev pub openAt : List ℕ → ℕ → ℕ → ℕ
 openAt marks d p = let last = mark marks (32 + placeFor d p) in cond (isDomainId d && ltb p 16) (cond (eqb last 0) 256 (last - 1)) 256
 
-abbrev pub tallyOf : Subject → List ℕ → Tally
-tallyOf s marks = record {
+-- The counts of the subject's domain, and the number of the block that it is about, with this one chosen.
+abbrev pub tallyOf : Subject → ℕ → List ℕ → Tally
+tallyOf s chosen marks = record {
   held = countOf marks 0 (s .domain);
   opened = countOf marks 16 (s .domain);
-  number = cond (s .placing) (openAt marks (s .domain) (s .number)) (s .number);
+  number = cond (s .placing) (openAt marks (s .domain) (s .number)) (cond (s .choosing) chosen (s .number));
 }
 
--- The Free blocks to be opened next were looked for, if the command may open one that it does not name.
-abbrev pub FreeChosen : Table → Subject → Candidates → Type 0
-FreeChosen t s c = s .choosing ≡ true → Chosen 0 (present t) noCandidates c
-
--- What was read of a table.
+-- What was read of a table; a Free block was looked for if the command is about it.
 pub record Views (t : Table) (v : View) : Type 0 where
   pub marks : List ℕ
+  pub free : Candidate
   pub same-config : v .config ≡ t .config
   pub scanned : BlocksScanned t (v .subject) (v .sound) marks
   pub covered : DomainsPassed (t .domains) (size t) marks 16 (v .covering)
-  pub tallied : v .tally ≡ tallyOf (v .subject) marks
-  pub chosen : FreeChosen t (v .subject) (v .free)
+  pub chosen : v .subject .choosing ≡ true → Chosen 0 (present t) noCandidate free
+  pub tallied : v .tally ≡ tallyOf (v .subject) (free .number) marks
   pub same-domain : v .domain ≡ domainAt t (v .subject .domain)
   pub same-block : v .block ≡ getD (present t) (v .tally .number) clearBlock
 
 -- What is seen, of a subject that has its numbers from the table's configuration: the table and the subject's domain, and where the
--- table is sound, the block that the subject is about and the choice.
+-- table is sound, the block that the subject is about.
 pub record Sighted (t : Table) (s : Subject) (r : Sight) : Type 0 where
   pub sees : SubjectOf t s → Sees t (s .domain) r
-  pub names : SubjectOf t s → s .placing ≡ false → SeesBlock t (s .number) r
+  pub names : SubjectOf t s → s .placing ≡ false → s .choosing ≡ false → SeesBlock t (s .number) r
   pub places : SubjectOf t s → s .placing ≡ true → SeesPlacement t (s .domain) (s .number) r
-  pub chooses : SubjectOf t s → s .choosing ≡ true → SeesChoice t r
+  pub chooses : SubjectOf t s → s .placing ≡ false → s .choosing ≡ true → SeesChoice t r
 
 -- The marks of a list, from any before it.
 abbrev pub ListGathered : Table → Subject → List ℕ → Type 0

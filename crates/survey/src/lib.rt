@@ -10,9 +10,8 @@ mod sight;
 
 pub use clauses::holder_index;
 pub use free::Candidate;
-pub use free::Candidates;
 pub use free::choose;
-pub use free::no_candidates;
+pub use free::no_candidate;
 pub use listing::byte_told;
 pub use listing::index_told;
 pub use listing::put_listed;

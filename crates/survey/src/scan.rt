@@ -33,7 +33,7 @@ pub struct Subject {
     // the block that it names, or the placement whose open block it writes to
     pub placing: bool,
     pub number: u64,
-    // whether a block may be opened that it does not name
+    // whether it is about the Free block to be opened next instead
     pub choosing: bool,
     // whether it lists the domain's blocks, and which
     pub listing: bool,

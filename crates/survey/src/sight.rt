@@ -1,15 +1,12 @@
 // What a command sees of a table: all that its questions ask of it and its change needs.
 use crate::clauses::domain_sound;
 use crate::clauses::larger;
-use crate::free::Candidate;
-use crate::free::Candidates;
 use crate::marks::number;
 use crate::scan::Subject;
 use geometry::Config;
 use geometry::within_limits;
 use model::Block;
 use model::Domain;
-use tables::Choice;
 ghost use mathlib.Core.Bool.{cond};
 ghost use mathlib.Core.Path.{_≡_};
 ghost use Prim.Native.Nat.{_+_, _-_, _<_, _≤_};
@@ -17,7 +14,7 @@ ghost use lib.ListN.{length};
 ghost use Rattle.geometry.specs.Address.{isDomainId};
 ghost use Rattle.model.specs.declared.table.Table.{Table};
 ghost use Rattle.survey.specs.Marks.{mark, markCount};
-ghost use Rattle.survey.specs.Sight.{Sighted, Views, choiceOf, coveringWith, foundOf, openAt, tallyOf};
+ghost use Rattle.survey.specs.Sight.{Sighted, Views, coveringWith, foundOf, openAt, tallyOf};
 
 // A block that is looked for.
 pub enum Found {
@@ -37,9 +34,6 @@ pub struct Sight {
     // the block that the command is about, and its record
     pub found: Found,
     pub block: Block,
-    // the two Free blocks to be opened next
-    pub first: Choice,
-    pub second: Choice,
 }
 
 // What the pass over the domains gives: whether their clauses hold, and the coverage.
@@ -106,13 +100,16 @@ fn open_at(marks: &[u16], domain: u64, placement: u64) -> u64
     256
 }
 
-// The block that the command is about: the one that it names, or its placement's open one.
-fn about(subject: Subject, marks: &[u16]) -> u64
+// The block that the command is about: its placement's open one, the chosen one, or the one that it names.
+fn about(subject: Subject, chosen: u64, marks: &[u16]) -> u64
     requires { ⌜ length (now marks) ≡ markCount ⌝ }
-    ensures { λ r. ⌜ r ≡ tallyOf subject (now (marks .entry)) .number ⌝ }
+    ensures { λ r. ⌜ r ≡ tallyOf subject chosen (now (marks .entry)) .number ⌝ }
 {
     if subject.placing {
         return open_at(marks, subject.domain, subject.number);
+    }
+    if subject.choosing {
+        return chosen;
     }
     subject.number
 }
@@ -124,15 +121,15 @@ pub struct Tally {
     pub number: u64,
 }
 
-pub fn tally_of(subject: Subject, marks: &[u16]) -> Tally
+pub fn tally_of(subject: Subject, chosen: u64, marks: &[u16]) -> Tally
     requires { ⌜ length (now marks) ≡ markCount ⌝ }
-    ensures { λ r. ⌜ r ≡ tallyOf subject (now (marks .entry)) ⌝ }
+    ensures { λ r. ⌜ r ≡ tallyOf subject chosen (now (marks .entry)) ⌝ }
 {
     let domain = subject.domain;
     Tally {
         held: count_of(marks, 0, domain),
         opened: count_of(marks, 16, domain),
-        number: about(subject, marks),
+        number: about(subject, chosen, marks),
     }
 }
 
@@ -146,25 +143,14 @@ fn found_in(number: u64) -> Found
     }
 }
 
-fn choice_in(candidate: Candidate) -> Choice
-    ensures { λ r. ⌜ r ≡ choiceOf candidate ⌝ }
-{
-    if candidate.erases < 4294967296 {
-        Choice::Block(candidate.number, candidate.erases as u32)
-    } else {
-        Choice::Nothing
-    }
-}
-
-// What was read of a table for a command: its configuration, what the scans found, and the records of the domain and of the block that
-// the command is about.
+// What was read of a table for a command: its configuration, what the scans found, and the records of the domain and of
+// the block that the command is about.
 pub struct View {
     pub config: Config,
     pub subject: Subject,
     pub sound: bool,
     pub covering: Covering,
     pub tally: Tally,
-    pub free: Candidates,
     pub domain: Domain,
     pub block: Block,
 }
@@ -176,8 +162,6 @@ pub fn sighted(view: View) -> Sight
     let config = view.config;
     let domain = view.domain;
     let block = view.block;
-    let first = view.free.first;
-    let second = view.free.second;
     Sight {
         sound: within_limits(config)
             & view.sound
@@ -190,7 +174,5 @@ pub fn sighted(view: View) -> Sight
         coverage: view.covering.coverage,
         found: found_in(view.tally.number),
         block,
-        first: choice_in(first),
-        second: choice_in(second),
     }
 }

@@ -2,4 +2,3 @@
 pub mod Refusals
 pub mod Answering
 pub mod Covering
-pub mod Chosen

@@ -4,7 +4,6 @@
 // These functions serve the crates of the commands. What a host calls is in `manager`.
 mod arguments;
 mod change;
-mod choice;
 mod fields;
 mod questions;
 mod records;
@@ -21,7 +20,6 @@ pub use change::opening_change;
 pub use change::pulse_change;
 pub use change::refusal;
 pub use change::unchanged;
-pub use choice::Choice;
 pub use fields::integrity;
 pub use fields::state_byte;
 pub use fields::wear_index;

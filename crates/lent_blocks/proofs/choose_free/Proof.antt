@@ -1,5 +1,5 @@
 -- `choose_free` meets its contract: a walk of its code, by hand, since it goes over a lent slice of structs. The borrow of the blocks is opened once, after
--- the call of `no_candidates`, and closed when the loop is left. Each turn reads one block and hands it to `choose`.
+-- the call of `no_candidate`, and closed when the loop is left. Each turn reads one block and hands it to `choose`.
 use Prim.Native.Nat.{ℕ, _+_, _*_, _<_, _^_, _≤_}
 use mathlib.Core.Bool.{Bool}
 use mathlib.Core.List.{List, [], _∷_, _++_, append-assoc}
@@ -51,16 +51,16 @@ use borrow.Table.OneValue.{part-out, part-in}
 use Rattle.model.specs.declared.block.Block.{Block}
 use Rattle.model.proofs.block.Block.{the-row, the-type}
 use Rattle.model.proofs.block.Block.Laws.{mir as block, the-copy, the-laws, the-plain}
-use Rattle.survey.specs.Free.{Chosen, chosenNext, noCandidates}
-use Rattle.survey.specs.declared.free.Candidates.{Candidates}
-use Rattle.survey.proofs.free.Candidates as best
-use Rattle.survey.proofs.free.Candidates.Laws as best-laws
+use Rattle.survey.specs.Free.{Chosen, chosenNext, noCandidate}
+use Rattle.survey.specs.declared.free.Candidate.{Candidate}
+use Rattle.survey.proofs.free.Candidate as best
+use Rattle.survey.proofs.free.Candidate.Laws as best-laws
 use Rattle.survey.proofs.choose as choose
 use Rattle.survey.proofs.choose.Met as choose-met
 use Rattle.survey.proofs.choose.Symbol as choose-symbol
-use Rattle.survey.proofs.no_candidates as none
-use Rattle.survey.proofs.no_candidates.Met as none-met
-use Rattle.survey.proofs.no_candidates.Symbol as none-symbol
+use Rattle.survey.proofs.no_candidate as none
+use Rattle.survey.proofs.no_candidate.Met as none-met
+use Rattle.survey.proofs.no_candidate.Symbol as none-symbol
 use Rattle.lent_blocks.proofs.choose_free as walk
 use Rattle.lent_blocks.proofs.choose_free.Code as code
 use Rattle.lent_blocks.proofs.choose_free.Code.Mir.{turn-1, t-1, t-4}
@@ -82,15 +82,15 @@ slice = sliceTy (tyRef (named 0) imm (pointee (the-row .written)))
 abbrev stayed : Stays (walk.ended .signature .params) (walk.ended .kept)
 stayed = (stay-dropped (shrSliceOf (0 ∷ []) tt (plain (λ _. the-row))) yes, (stay-dropped (plain (λ _. usize)) yes, tt))
 
--- With no block left the best are chosen, and a choice with one block before it is a choice.
-finished : (n : ℕ) (c : Candidates) → Chosen n [] c c
+-- With no block left the best is chosen, and a choice with one block before it is a choice.
+finished : (n : ℕ) (c : Candidate) → Chosen n [] c c
 unfolding Chosen
 finished n c = refl
 
-further : (n : ℕ) (b : Block) (bs : List Block) (c d r : Candidates) → d ≡ chosenNext c n b → b .erases < 4294967296 → Chosen (n + 1) bs d r
+further : (n : ℕ) (b : Block) (bs : List Block) (c d r : Candidate) → d ≡ chosenNext c n b → b .erases < 4294967296 → Chosen (n + 1) bs d r
     → Chosen n (b ∷ bs) c r
 unfolding Chosen
-further n b bs c d r is-next few rest = (few, subst (λ (e : Candidates). Chosen (n + 1) bs e r) is-next rest)
+further n b bs c d r is-next few rest = (few, subst (λ (e : Candidate). Chosen (n + 1) bs e r) is-next rest)
 
 -- What is not fixed between two turns: the index, the machine value of the best so far, the blocks passed over and those left, the best so far.
 record Turn : Type 0 where
@@ -98,10 +98,10 @@ record Turn : Type 0 where
   value : Val
   past : List Block
   left : List Block
-  found : Candidates
+  found : Candidate
 
 module _ {M : Type 1} (𝓤 : URA M) (H : Heap 𝓤) (A : Atoms 𝓤) (W : Given 𝓤 H A) (mem″ : Memory → SProp 𝓤) (run : Routine → Fun 𝓤) where
-  -- The contract of `no_candidates`, as a triple, a call of it, that it may be made, and what it ensures.
+  -- The contract of `no_candidate`, as a triple, a call of it, that it may be made, and what it ensures.
   abbrev None : Contract 𝓤
   None = tripleOf 𝓤 H A none.signature (none.spec 𝓤 H A mem″ run)
 
@@ -111,14 +111,14 @@ module _ {M : Type 1} (𝓤 : URA M) (H : Heap 𝓤) (A : Atoms 𝓤) (W : Given
   none-may : ent 𝓤 (emp 𝓤) (None .pre to-none)
   none-may = qed W [] ∵ nothing ! $ nothing ! $ nothing ! $ join ! $ done !
 
-  none-ensures : (r : Candidates) → ent 𝓤 (ensured 𝓤 H A none.ended (none.clauses 𝓤 H A mem″ run) tt tt tt r) (fact 𝓤 (r ≡ noCandidates))
-  none-ensures r = exE 𝓤 _ (λ ws. snd∗ 𝓤 (sem 𝓤 H A (lasts none.ended tt tt ws)) (fact 𝓤 (r ≡ noCandidates)))
+  none-ensures : (r : Candidate) → ent 𝓤 (ensured 𝓤 H A none.ended (none.clauses 𝓤 H A mem″ run) tt tt tt r) (fact 𝓤 (r ≡ noCandidate))
+  none-ensures r = exE 𝓤 _ (λ ws. snd∗ 𝓤 (sem 𝓤 H A (lasts none.ended tt tt ws)) (fact 𝓤 (r ≡ noCandidate)))
 
   -- That of `choose`, a call of it with the best so far, p, and the block z, whose machine values are v and u, at the number i, and the same of it.
   abbrev Chooses : Contract 𝓤
   Chooses = tripleOf 𝓤 H A choose.signature (choose.spec 𝓤 H A mem″ run)
 
-  module _ (p : Candidates) (v : Val) (i : ℕ) (z : Block) (u : Val) where
+  module _ (p : Candidate) (v : Val) (i : ℕ) (z : Block) (u : Val) where
     abbrev to-choose : Chooses .Ghost
     to-choose = ((tt, tt, tt, (p, (i, (z, tt))), (v ∷ [], (vint w64 i ∷ [], (u ∷ [], tt)))), tt)
 
@@ -129,10 +129,10 @@ module _ {M : Type 1} (𝓤 : URA M) (H : Heap 𝓤) (A : Atoms 𝓤) (W : Given
         owned ! best.the-row (Is best.the-row) (makes best.the-type best-laws.the-plain 𝓤 H A) p (v ∷ []) is-best $ fjoin ! $
         nothing ! $ join ! $ frame ! $ done !
 
-    abbrev Step : Candidates → Type 0
+    abbrev Step : Candidate → Type 0
     Step r = (r ≡ chosenNext p i z) × (z .erases < 4294967296)
 
-    choose-ensures : (r : Candidates)
+    choose-ensures : (r : Candidate)
         → ent 𝓤 (ensured 𝓤 H A choose.ended (choose.clauses 𝓤 H A mem″ run) tt (p, (i, (z, tt))) tt r) (fact 𝓤 (Step r))
     choose-ensures r = exE 𝓤 _ (λ ws. snd∗ 𝓤 (sem 𝓤 H A (lasts choose.ended tt (p, (i, (z, tt))) ws)) (fact 𝓤 (Step r)))
 
@@ -192,11 +192,11 @@ module _ {M : Type 1} (𝓤 : URA M) (H : Heap 𝓤) (A : Atoms 𝓤) (W : Given
   abbrev Entry : List (Item 𝓤)
   Entry = (‵ (flft κ q) ⊛ ‵ ftrue) ∷ ‵ (owns (ShrSlice (named 0) κ the-row ∷ usize ∷ []) x at) ∷ []
 
-  typed-best : (p : Candidates) (v : Val) → Is best.the-row p (v ∷ []) → T (hasTy best-laws.mir v) × WT v
+  typed-best : (p : Candidate) (v : Val) → Is best.the-row p (v ∷ []) → T (hasTy best-laws.mir v) × WT v
   typed-best p v is = lawful best.the-type best-laws.the-laws 𝓤 H A W .typed p (v ∷ []) is .0
 
   -- With the borrow of the blocks closed, the contract is met.
-  exits : (p : Candidates) (v : Val) → Is best.the-row p (v ∷ []) → Chosen 0 cs noCandidates p → ent 𝓤 (⋆ 𝓤 H A (‵ (flft κ q) ∷ [])) (Post v)
+  exits : (p : Candidate) (v : Val) → Is best.the-row p (v ∷ []) → Chosen 0 cs noCandidate p → ent 𝓤 (⋆ 𝓤 H A (‵ (flft κ q) ∷ [])) (Post v)
   exits p v is f =
       qed W (‵ (flft κ q) ∷ []) ∵
       suffices ! _ (ends-at 𝓤 H A walk.ended stayed (walk.clauses 𝓤 H A mem″ run) W bound v p (tt, (tt, tt)) (tt, (tt, tt))) $ says ! f $
@@ -236,8 +236,8 @@ module _ {M : Type 1} (𝓤 : URA M) (H : Heap 𝓤) (A : Atoms 𝓤) (W : Given
       Left = afterBlock 𝓤 H (afterSeq 𝓤 H (Wp 𝓤 H C Λ En t-4 (atReturn 𝓤 H En Post)) (atReturn 𝓤 H En Post))
 
       -- A turn with a block z left: it is read, and `choose` gets it with its number.
-      more : (i : ℕ) (z : Block) (p : Candidates) (v : Val) (X : SProp 𝓤) → i < m → getD bs i z ≡ z → Is best.the-row p (v ∷ [])
-          → ((r : Candidates) (w : Val) → Is best.the-row r (w ∷ []) → r ≡ chosenNext p i z → z .erases < 4294967296 → ent 𝓤 (⋆ 𝓤 H A (At (i + 1) w)) X)
+      more : (i : ℕ) (z : Block) (p : Candidate) (v : Val) (X : SProp 𝓤) → i < m → getD bs i z ≡ z → Is best.the-row p (v ∷ [])
+          → ((r : Candidate) (w : Val) → Is best.the-row r (w ∷ []) → r ≡ chosenNext p i z → z .erases < 4294967296 → ent 𝓤 (⋆ 𝓤 H A (At (i + 1) w)) X)
           → ent 𝓤 (⋆ 𝓤 H A (At i v)) (Wp 𝓤 H C Λ En turn-1 (afterTurn 𝓤 H X Left))
       unfolding afterTurn
       more i z p v X small here-is is-best k =
@@ -272,7 +272,7 @@ module _ {M : Type 1} (𝓤 : URA M) (H : Heap 𝓤) (A : Atoms 𝓤) (W : Given
           calls-at ! fm (Chooses 𝓤 H A W mem″ run) known (to-choose 𝓤 H A W mem″ run p v i z u)
           (and-then ! (load ! (from ! (stop !)) (look ! 2 refl)) (and-then ! (load ! (from ! (stop !)) (look ! 9 refl))
           (and-then ! (load ! (from ! (stop !)) (look ! 4 refl)) (no-more !)))) (λ w.
-          use1 W (later (some (λ (r : Candidates). (‵ ftrue ⊛ ‵ (best.the-row .own r (w ∷ [])))
+          use1 W (later (some (λ (r : Candidate). (‵ ftrue ⊛ ‵ (best.the-row .own r (w ∷ [])))
           ⊛ raw (ensured 𝓤 H A choose.ended (choose.clauses 𝓤 H A mem″ run) tt (p, (i, (z, tt))) tt r)))) (id⊢ 𝓤 _) $ await ! tt $ pick ! (λ r.
           split ! $ move ! (1 ∷ []) $
           use1 W (raw (fact 𝓤 (Step 𝓤 H A W mem″ run p v i z u r))) (choose-ensures 𝓤 H A W mem″ run p v i z u r) $
@@ -298,7 +298,7 @@ module _ {M : Type 1} (𝓤 : URA M) (H : Heap 𝓤) (A : Atoms 𝓤) (W : Given
           next = omega (arith, small, fits, g .0)
 
       -- The turn that leaves the loop, and the rest of the body: the borrow of the blocks is closed.
-      ends : (p : Candidates) (v : Val) (X : SProp 𝓤) → Is best.the-row p (v ∷ []) → Chosen 0 cs noCandidates p
+      ends : (p : Candidate) (v : Val) (X : SProp 𝓤) → Is best.the-row p (v ∷ []) → Chosen 0 cs noCandidate p
           → ent 𝓤 (⋆ 𝓤 H A (At m v)) (Wp 𝓤 H C Λ En turn-1 (afterTurn 𝓤 H X Left))
       unfolding afterTurn
       ends p v X is-best f =
@@ -314,11 +314,11 @@ module _ {M : Type 1} (𝓤 : URA M) (H : Heap 𝓤) (A : Atoms 𝓤) (W : Given
           move ! (1 ∷ 7 ∷ []) $ free1 ! $ move ! (1 ∷ 6 ∷ []) $ free1 ! $ move ! (1 ∷ 5 ∷ []) $ free1 ! $ move ! (1 ∷ 4 ∷ []) $ free1 ! $
           move ! (1 ∷ 3 ∷ []) $ free1 ! $ move ! (1 ∷ 2 ∷ []) $ free1 ! $ free0 ! $ by ! (exits p v is-best f)
 
-      -- What holds of a state with c blocks left: ds were passed over and zs are left, p are the best so far, and what is chosen from here over zs is chosen
+      -- What holds of a state with c blocks left: ds were passed over and zs are left, p is the best so far, and what is chosen from here over zs is chosen
       -- over all blocks.
-      abbrev Facts : ℕ → ℕ → Val → List Block → List Block → Candidates → Type 0
+      abbrev Facts : ℕ → ℕ → Val → List Block → List Block → Candidate → Type 0
       Facts c i v ds zs p = (length zs ≡ c) × (i ≡ length ds) × (ds ++ zs ≡ cs) × Is best.the-row p (v ∷ [])
-          × ((r : Candidates) → Chosen i zs p r → Chosen 0 cs noCandidates r)
+          × ((r : Candidate) → Chosen i zs p r → Chosen 0 cs noCandidate r)
 
       -- Such a state, the invariant, and the invariant with fewer left.
       abbrev State : ℕ → Turn → SProp 𝓤
@@ -331,15 +331,15 @@ module _ {M : Type 1} (𝓤 : URA M) (H : Heap 𝓤) (A : Atoms 𝓤) (W : Given
       Below c = ex 𝓤 (λ (c′ : ℕ). guard 𝓤 (c′ < c) (Inv c′))
 
       -- Where the facts hold, the invariant is met, and so is the one with fewer left.
-      inv-in : (c i : ℕ) (v : Val) (ds zs : List Block) (p : Candidates) → Facts c i v ds zs p → ent 𝓤 (⋆ 𝓤 H A (At i v)) (Inv c)
+      inv-in : (c i : ℕ) (v : Val) (ds zs : List Block) (p : Candidate) → Facts c i v ds zs p → ent 𝓤 (⋆ 𝓤 H A (At i v)) (Inv c)
       inv-in c i v ds zs p f =
           qed W (At i v) ∵ show ! (State c) (record { index = i; value = v; past = ds; left = zs; found = p }) $ check ! f $ done !
 
-      below : (c c′ i : ℕ) (v : Val) (ds zs : List Block) (p : Candidates) → c′ < c → Facts c′ i v ds zs p → ent 𝓤 (⋆ 𝓤 H A (At i v)) (Below c)
+      below : (c c′ i : ℕ) (v : Val) (ds zs : List Block) (p : Candidate) → c′ < c → Facts c′ i v ds zs p → ent 𝓤 (⋆ 𝓤 H A (At i v)) (Below c)
       below c c′ i v ds zs p less f = qed W (At i v) ∵ show ! (λ (e : ℕ). guard 𝓤 (e < c) (Inv e)) c′ $ check ! less $ by ! (inv-in c′ i v ds zs p f)
 
       -- A turn from a state of which the facts hold, and from the invariant.
-      turn-at : (c i : ℕ) (v : Val) (ds zs : List Block) (p : Candidates) → Facts c i v ds zs p
+      turn-at : (c i : ℕ) (v : Val) (ds zs : List Block) (p : Candidate) → Facts c i v ds zs p
           → ent 𝓤 (⋆ 𝓤 H A (At i v)) (Wp 𝓤 H C Λ En turn-1 (afterTurn 𝓤 H (Below c) Left))
       turn-at c i v ds [] p f = subst (λ (j : ℕ). ent 𝓤 (⋆ 𝓤 H A (At j v)) (Wp 𝓤 H C Λ En turn-1 (afterTurn 𝓤 H (Below c) Left))) over
           (ends p v (Below c) (f .3) (f .4 p (finished i p)))
@@ -366,8 +366,8 @@ module _ {M : Type 1} (𝓤 : URA M) (H : Heap 𝓤) (A : Atoms 𝓤) (W : Given
       turns c = exE 𝓤 (State c) (λ u. guardE 𝓤 _ (⋆ 𝓤 H A (At (u .index) (u .value))) (turn-at c (u .index) (u .value) (u .past) (u .left) (u .found)))
 
       -- The loop, from all blocks left.
-      loops : (p : Candidates) (v : Val) → Is best.the-row p (v ∷ []) → p ≡ noCandidates → ent 𝓤 (⋆ 𝓤 H A (At 0 v)) (Wp 𝓤 H C Λ En (loop turn-1) Left)
-      loops p v is e = via 𝓤 (Inv (length cs)) (inv-in (length cs) 0 v [] cs p (refl, refl, refl, is, λ r. subst (λ (c : Candidates). Chosen 0 cs c r) e))
+      loops : (p : Candidate) (v : Val) → Is best.the-row p (v ∷ []) → p ≡ noCandidate → ent 𝓤 (⋆ 𝓤 H A (At 0 v)) (Wp 𝓤 H C Λ En (loop turn-1) Left)
+      loops p v is e = via 𝓤 (Inv (length cs)) (inv-in (length cs) 0 v [] cs p (refl, refl, refl, is, λ r. subst (λ (c : Candidate). Chosen 0 cs c r) e))
           (loop-rule 𝓤 H (W .laws) 𝓣 _<_ (Nat·lt-wfRel .wf) En turn-1 Left Inv turns (length cs))
 
     -- The state at the entry, with the parameter stored.
@@ -380,10 +380,10 @@ module _ {M : Type 1} (𝓤 : URA M) (H : Heap 𝓤) (A : Atoms 𝓤) (W : Given
         qed W Begun ∵ exec ! C Λ En t-1 (atRet En Post) $
         use0 W (raw (None 𝓤 H A W mem″ run .pre (to-none 𝓤 H A W mem″ run))) (none-may 𝓤 H A W mem″ run) $
         calls-at ! fm (None 𝓤 H A W mem″ run) known-none (to-none 𝓤 H A W mem″ run) (no-more !) (λ v.
-        use1 W (later (some (λ (p : Candidates). (‵ ftrue ⊛ ‵ (best.the-row .own p (v ∷ [])))
+        use1 W (later (some (λ (p : Candidate). (‵ ftrue ⊛ ‵ (best.the-row .own p (v ∷ [])))
         ⊛ raw (ensured 𝓤 H A none.ended (none.clauses 𝓤 H A mem″ run) tt tt tt p)))) (id⊢ 𝓤 _) $ await ! tt $ pick ! (λ p.
-        split ! $ move ! (1 ∷ []) $ use1 W (raw (fact 𝓤 (p ≡ noCandidates))) (none-ensures 𝓤 H A W mem″ run p) $
-        heard ! (p ≡ noCandidates) (λ e. split ! $ drop ! $ peeks ! best.the-row (Is best.the-row) (shows 𝓤 H A best.the-row) p (v ∷ []) (λ is.
+        split ! $ move ! (1 ∷ []) $ use1 W (raw (fact 𝓤 (p ≡ noCandidate))) (none-ensures 𝓤 H A W mem″ run p) $
+        heard ! (p ≡ noCandidate) (λ e. split ! $ drop ! $ peeks ! best.the-row (Is best.the-row) (shows 𝓤 H A best.the-row) p (v ∷ []) (λ is.
         land ! (from ! (stop !)) (init ! 15 refl (typed-best p v is)) $ drop ! $
         assigns ! (of-opd ! (lit ! tt)) (from ! (stop !)) (init ! 12 refl (tt, record { fits = lit< tt })) $
         move ! (23 ∷ []) $ fsplit ! $ fsplit ! $ drop ! $ fsplit ! $ drop ! $ move ! (1 ∷ []) $ drop ! $ move ! (23 ∷ []) $ split ! $ move ! (2 ∷ 0 ∷ []) $
@@ -422,7 +422,7 @@ choose-free-spec 𝓤 H 𝓜 𝓖 𝓡 =
     entered 𝓤 H (tripleOf 𝓤 H (𝓖 .A) walk.signature (walk.spec 𝓤 H (𝓖 .A) (𝓜 .mem) (𝓡 .run)))
     (tables 𝓤 H 𝓜 𝓡 code.env .C) (tables 𝓤 H 𝓜 𝓡 code.env .Λ) name code.function (code.unfolded 𝓤 H 𝓜 𝓡)
     (meets 𝓤 H (𝓖 .A) (givenOf 𝓤 H 𝓜 𝓖) (𝓜 .mem) (𝓡 .run) (tablesOf 𝓤 H 𝓜 (tables 𝓤 H 𝓜 𝓡 code.env))
-    (cited 𝓤 H (None 𝓤 H (𝓖 .A) (givenOf 𝓤 H 𝓜 𝓖) (𝓜 .mem) (𝓡 .run)) 𝓜 𝓡 code.env none-symbol.name none-symbol.routine code.calls-survey·no-candidates
+    (cited 𝓤 H (None 𝓤 H (𝓖 .A) (givenOf 𝓤 H 𝓜 𝓖) (𝓜 .mem) (𝓡 .run)) 𝓜 𝓡 code.env none-symbol.name none-symbol.routine code.calls-survey·no-candidate
     (none-met.met 𝓤 H 𝓜 𝓖 𝓡))
     (cited 𝓤 H (Chooses 𝓤 H (𝓖 .A) (givenOf 𝓤 H 𝓜 𝓖) (𝓜 .mem) (𝓡 .run)) 𝓜 𝓡 code.env choose-symbol.name choose-symbol.routine code.calls-survey·choose
     (choose-met.met 𝓤 H 𝓜 𝓖 𝓡)))

@@ -48,7 +48,7 @@ enum-known-command-4 c = search needs
 
 erase-requires : tie.Need-erase-requires
 unfolding subjectOf
-erase-requires c κs = let o = one (c .before .before .before .before) _ (c .before .before .command4 .given .1) in (o .0, o .1 .sees, o .1 .names refl, o .1 .chooses)
+erase-requires c κs = let o = one (c .before .before .before .before) _ (c .before .before .command4 .given .1) in (o .0, o .1 .sees, o .1 .names refl, o .1 .chooses refl)
 
 enum-known-command-5 : tie.Need-enum-known-command-5
 enum-known-command-5 c = search needs
@@ -67,7 +67,7 @@ enum-known-command-7 c = search needs
 
 write-by-placement-requires : tie.Need-write-by-placement-requires
 unfolding subjectOf
-write-by-placement-requires c κs = let o = one (c .before .before .before .before .before) _ (c .before .before .before .command7 .given .1) in (o .0, o .1 .sees, o .1 .places refl, o .1 .chooses refl)
+write-by-placement-requires c κs = let o = one (c .before .before .before .before .before) _ (c .before .before .before .command7 .given .1) in (o .0, o .1 .sees, o .1 .places refl)
 
 enum-known-command-8 : tie.Need-enum-known-command-8
 enum-known-command-8 c = search needs
@@ -134,17 +134,17 @@ same-length c = search needs
 returns-4 : tie.Need-returns-4
 unfolding subjectOf Answered
 returns-4 c = let z = c .before .before .before .before .before .before .before .before .before .before .before .before .args in let told = c .before .before .before .before .before .command4 .given .1 in
-    rw told (λ t p. let s = made (c .before .before .before .before .before .before .before) _ told t p in c .before .before .erase .ensures t (z .words .now) (z .bytes .now) (s .sees) (s .names refl) (s .chooses))
+    rw told (λ t p. let s = made (c .before .before .before .before .before .before .before) _ told t p in c .before .before .erase .ensures t (z .words .now) (z .bytes .now) (s .sees) (s .names refl) (s .chooses refl))
 
 returns-5 : tie.Need-returns-5
 unfolding subjectOf Answered
 returns-5 c = let z = c .before .before .before .before .before .before .before .before .before .args in let told = c .before .before .command5 .given .1 in
-    rw told (λ t p. let s = made (c .before .before .before .before) _ told t p in c .close .ensures t (z .store .now) (z .words .now) (z .bytes .now) (s .sees) (s .names refl))
+    rw told (λ t p. let s = made (c .before .before .before .before) _ told t p in c .close .ensures t (z .store .now) (z .words .now) (z .bytes .now) (s .sees) (s .names refl refl))
 
 returns-6 : tie.Need-returns-6
 unfolding subjectOf Answered
 returns-6 c = let z = c .before .before .before .before .before .before .before .before .before .args in let told = c .before .before .command6 .given .1 in
-    rw told (λ t p. let s = made (c .before .before .before .before) _ told t p in c .free .ensures t (z .store .now) (z .words .now) (z .bytes .now) (s .sees) (s .names refl))
+    rw told (λ t p. let s = made (c .before .before .before .before) _ told t p in c .free .ensures t (z .store .now) (z .words .now) (z .bytes .now) (s .sees) (s .names refl refl))
 
 same-length-2 : tie.Need-same-length-2
 same-length-2 c = search needs
@@ -155,7 +155,7 @@ same-length-3 c = search needs
 returns-7 : tie.Need-returns-7
 unfolding subjectOf Answered
 returns-7 c = let z = c .before .before .before .before .before .before .before .before .before .before .before .before .before .before .before .args in let told = c .before .before .before .before .before .before .before .before .command7 .given .1 in
-    rw told (λ t p. let s = made (c .before .before .before .before .before .before .before .before .before .before) _ told t p in c .before .before .before .before .write-by-placement .ensures t (z .bytes .now) (s .sees) (s .places refl) (s .chooses refl))
+    rw told (λ t p. let s = made (c .before .before .before .before .before .before .before .before .before .before) _ told t p in c .before .before .before .before .write-by-placement .ensures t (z .bytes .now) (s .sees) (s .places refl))
 
 same-length-4 : tie.Need-same-length-4
 same-length-4 c = search needs
@@ -166,7 +166,7 @@ same-length-5 c = search needs
 returns-8 : tie.Need-returns-8
 unfolding subjectOf Answered
 returns-8 c = let z = c .before .before .before .before .before .before .before .before .before .before .before .before .before .before .before .args in let told = c .before .before .before .before .before .before .before .before .command8 .given .1 in
-    rw told (λ t p. let s = made (c .before .before .before .before .before .before .before .before .before .before) _ told t p in c .before .before .before .before .write-by-block .ensures t (z .bytes .now) (s .sees) (s .names refl))
+    rw told (λ t p. let s = made (c .before .before .before .before .before .before .before .before .before .before) _ told t p in c .before .before .before .before .write-by-block .ensures t (z .bytes .now) (s .sees) (s .names refl refl))
 
 same-length-6 : tie.Need-same-length-6
 same-length-6 c = search needs
@@ -179,7 +179,7 @@ unfolding subjectOf Answered
 returns-9 c = let z = c .before .before .before .before .before .before .before .before .before .before .before .before .before .before .args in let told = c .before .before .before .before .before .before .before .command9 .given .1 in
     rw told (λ t p. let s = made (c .before .before .before .before .before .before .before .before .before) _ told t p in
     left t _ (c .before .before .before .read .result) (c .unchanged .result) (z .store .now) (z .words .now) (z .bytes .now) _ _ _ (c .unchanged .ensures)
-    (c .before .before .before .read .ensures t (z .bytes .now) (s .sees) (sees-read t _ _ (c .before .before .before .before .before .before .before .before .before .sighted .result) (s .sees) (s .names refl))))
+    (c .before .before .before .read .ensures t (z .bytes .now) (s .sees) (sees-read t _ _ (c .before .before .before .before .before .before .before .before .before .sighted .result) (s .sees) (s .names refl refl))))
 
 same-length-8 : tie.Need-same-length-8
 same-length-8 c = search needs
@@ -189,7 +189,7 @@ unfolding subjectOf Answered
 returns-10 c = let z = c .before .before .before .before .before .before .before .before .before .before .before .before .before .args in let told = c .before .before .before .before .before .before .command10 .given .1 in
     rw told (λ t p. let s = made (c .before .before .before .before .before .before .before .before) _ told t p in
     left t _ (c .before .before .before .page .result) (c .unchanged2 .result) (z .store .now) (z .words .now) (z .bytes .now) _ _ _ (c .unchanged2 .ensures)
-    (c .before .before .before .page .ensures t (z .store .now) (z .words .now) (s .sees) (s .names refl)))
+    (c .before .before .before .page .ensures t (z .store .now) (z .words .now) (s .sees) (s .names refl refl)))
 
 same-length-9 : tie.Need-same-length-9
 same-length-9 c = search needs

@@ -54,12 +54,12 @@ use Rattle.model.proofs.table.Domain as domain
 use Rattle.rules.specs.Drive.{clearBlock, clearDomain}
 use Rattle.survey.specs.Marks.{markCount}
 use Rattle.survey.specs.Scan.{Walked}
-use Rattle.survey.specs.Free.{Chosen, noCandidates}
+use Rattle.survey.specs.Free.{Chosen, noCandidate}
 use Rattle.survey.specs.Listing.{listedFrom}
 use Rattle.survey.specs.Sight.{DomainsPassed, tallyOf}
 use Rattle.survey.specs.declared.scan.Ranges.{Ranges}
 use Rattle.survey.specs.declared.scan.Subject.{Subject}
-use Rattle.survey.specs.declared.free.Candidates.{Candidates}
+use Rattle.survey.specs.declared.free.Candidate.{Candidate}
 use Rattle.survey.specs.declared.sight.Covering.{Covering}
 use Rattle.survey.specs.declared.sight.Tally.{Tally}
 use Rattle.survey.specs.declared.sight.View.{View}
@@ -68,7 +68,6 @@ use Rattle.survey.proofs.scan.Ranges.Laws as ranges-laws
 use Rattle.survey.proofs.scan.Subject as subject
 use Rattle.survey.proofs.scan.Subject.Laws as subject-laws
 use Rattle.survey.proofs.sight.Covering as covering
-use Rattle.survey.proofs.free.Candidates as candidates
 use Rattle.survey.proofs.sight.Tally as tally
 use Rattle.survey.proofs.sight.View as view
 use Rattle.survey.proofs.sight.View.Laws as view-laws
@@ -89,8 +88,8 @@ use Rattle.manager.proofs.looking.looked.Statement.{statement}
 use Rattle.manager.proofs.looking.looked.Proof.Calls.{block-name, block-routine, choose-name, choose-routine, domain-name, domain-routine, domains-name, domains-routine, list-name, list-routine, place-name, place-routine, scan-name, scan-routine, tally-name, tally-routine}
 use Rattle.manager.proofs.looking.looked.Proof.Calls.{BlockAt, ChooseFree, DomainAt, GatherList, PassDomains, PlaceOf, ScanBlocks, TallyOf, slice, subjectVal, rangesVal}
 use Rattle.manager.proofs.looking.looked.Proof.Frame.{En, localTypes, homes, locals-are, holds, empty, rooms, dies, frame-in, frame-out}
-use Rattle.manager.proofs.looking.looked.Proof.Scans.{scans-blocks, passes-domains, tallies, lists, configVal, coveringVal, tallyVal}
-use Rattle.manager.proofs.looking.looked.Proof.Records.{reads-block, places, reads-domain, chooses, blockVal, domainVal, candidatesVal}
+use Rattle.manager.proofs.looking.looked.Proof.Scans.{scans-blocks, passes-domains, tallies, lists, configVal, coveringVal, candidateVal, tallyVal}
+use Rattle.manager.proofs.looking.looked.Proof.Records.{reads-block, places, reads-domain, chooses, blockVal, domainVal}
 mod Frame
 mod Calls
 mod Scans
@@ -133,18 +132,18 @@ module _ {M : Type 1} (𝓤 : URA M) (H : Heap 𝓤) (A : Atoms 𝓤) (W : Given
   Post = walkOf 𝓤 H A looking.ended stayed (looking.clauses 𝓤 H A mem″ run) .post bound
 
   -- With the borrow of the marks closed over the last ones, the contract is met. The scan said ok, the one of the domains found p; y was counted, z and d are the
-  -- records of the block and of the domain, and f are the Free blocks; us are the last marks.
-  module _ (ok : Bool) (us : List ℕ) (p : Covering) (y : Tally) (z : Block) (d : Domain) (f : Candidates) (long : length us ≡ n) (is-c : Is config.the-row c (configVal c ∷ []))
+  -- records of the block and of the domain; us are the last marks.
+  module _ (ok : Bool) (us : List ℕ) (p : Covering) (y : Tally) (z : Block) (d : Domain) (long : length us ≡ n) (is-c : Is config.the-row c (configVal c ∷ []))
       (is-s : Is subject.the-row s (subjectVal s ∷ [])) (is-p : Is covering.the-row p (coveringVal p ∷ [])) (is-y : Is tally.the-row y (tallyVal y ∷ []))
-      (is-z : Is block.the-row z (blockVal z ∷ [])) (is-d : Is domain.the-row d (domainVal d ∷ [])) (is-f : Is candidates.the-row f (candidatesVal f ∷ [])) where
+      (is-z : Is block.the-row z (blockVal z ∷ [])) (is-d : Is domain.the-row d (domainVal d ∷ [])) where
     abbrev seen : View
-    seen = record { config = c; subject = s; sound = ok; covering = p; tally = y; free = f; domain = d; block = z }
+    seen = record { config = c; subject = s; sound = ok; covering = p; tally = y; domain = d; block = z }
 
     abbrev seenVal : Val
     seenVal = val view.the-type view-laws.the-laws seen
 
     is-seen : Is view.the-row seen (seenVal ∷ [])
-    is-seen = owes view.the-type view-laws.the-laws seen (is-c, (is-s, (refl, (is-p, (is-y, (is-f, (is-d, (is-z, tt))))))))
+    is-seen = owes view.the-type view-laws.the-laws seen (is-c, (is-s, (refl, (is-p, (is-y, (is-d, (is-z, tt)))))))
 
     abbrev Closed : List (Item 𝓤)
     Closed = ‵ (flft κ′ q′) ∷ ‵ (flft κ q) ∷ ‵ (fobs γ (codedHoleys u16 .code (heres u16 us))) ∷ ‵ (fbor κ″ (Held u16 n b o γ)) ∷ ‵ (flft κ″ q″) ∷ ‵ (room u16 n) ∷ []
@@ -162,19 +161,19 @@ module _ {M : Type 1} (𝓤 : URA M) (H : Heap 𝓤) (A : Atoms 𝓤) (W : Given
         nothing ! $ move ! (1 ∷ 0 ∷ []) $ fjoin ! $ nothing ! $ fjoin ! $ nothing ! $ fjoin ! $ nothing ! $ fjoin ! $ nothing ! $ fjoin ! $ nothing ! $ fjoin ! $ done !
 
     -- The last statements: what was seen is put together, the borrow closed, and the frame freed.
-    leaves : (𝓣 : Tables 𝓤 H) (ls : List ℕ) → Looked c s g (bs .now) (rs .now) ms seen us
+    leaves : (𝓣 : Tables 𝓤 H) (ls : List ℕ) (f : Candidate) → Looked c s g (bs .now) (rs .now) ms seen us
         → Sq W (‵ (cells (mem u16) us b o) ∷ ‵ (fobor κ″ q″ (Held u16 n b o γ)) ∷ ‵ (fobs γ (codedHoleys u16 .code (heres u16 ms)))
         ∷ ‵ (fauth γ (codedHoleys u16 .code (heres u16 ms))) ∷ ‵ (room u16 n) ∷ ‵ (flft κ q) ∷ ‵ (flft κ′ q′) ∷ empty 𝓤 H ls 0 ∷ holds 𝓤 H ls 1 (slice bs)
         ∷ holds 𝓤 H ls 2 (slice rs) ∷ holds 𝓤 H ls 3 (configVal c) ∷ holds 𝓤 H ls 4 (subjectVal s) ∷ holds 𝓤 H ls 5 (rangesVal g)
-        ∷ holds 𝓤 H ls 6 (sliceVal (b, o) n) ∷ holds 𝓤 H ls 7 (vbool ok) ∷ holds 𝓤 H ls 8 (coveringVal p) ∷ holds 𝓤 H ls 9 (tallyVal y)
-        ∷ holds 𝓤 H ls 10 (blockVal z) ∷ holds 𝓤 H ls 11 (vint w64 (s .domain - 1)) ∷ holds 𝓤 H ls 12 (domainVal d) ∷ holds 𝓤 H ls 13 (candidatesVal f)
+        ∷ holds 𝓤 H ls 6 (sliceVal (b, o) n) ∷ holds 𝓤 H ls 7 (vbool ok) ∷ holds 𝓤 H ls 8 (coveringVal p) ∷ holds 𝓤 H ls 9 (candidateVal f)
+        ∷ holds 𝓤 H ls 10 (tallyVal y) ∷ holds 𝓤 H ls 11 (blockVal z) ∷ holds 𝓤 H ls 12 (vint w64 (s .domain - 1)) ∷ holds 𝓤 H ls 13 (domainVal d)
         ∷ empty 𝓤 H ls 14 ∷ empty 𝓤 H ls 15 ∷ empty 𝓤 H ls 16 ∷ empty 𝓤 H ls 17 ∷ empty 𝓤 H ls 18 ∷ empty 𝓤 H ls 19 ∷ empty 𝓤 H ls 20 ∷ empty 𝓤 H ls 21
         ∷ empty 𝓤 H ls 22 ∷ ‵ ftrue ∷ dies 𝓤 H ls ∷ []) (runs (𝓣 .C) (𝓣 .Λ) (En 𝓤 H ls) t-17 (atRet (En 𝓤 H ls) Post))
-    leaves 𝓣 ls done-so =
+    leaves 𝓣 ls f done-so =
         assigns ! (agg ! (and-then ! (load ! (from ! (stop !)) (look ! 10 refl)) (and-then ! (load ! (from ! (stop !)) (look ! 11 refl))
         (and-then ! (load ! (from ! (stop !)) (look ! 14 refl)) (and-then ! (load ! (from ! (stop !)) (look ! 15 refl))
-        (and-then ! (load ! (from ! (stop !)) (look ! 16 refl)) (and-then ! (load ! (from ! (stop !)) (look ! 20 refl))
-        (and-then ! (load ! (from ! (stop !)) (look ! 19 refl)) (and-then ! (load ! (from ! (stop !)) (look ! 17 refl)) (no-more !)))))))))) (from ! (stop !))
+        (and-then ! (load ! (from ! (stop !)) (look ! 17 refl)) (and-then ! (load ! (from ! (stop !)) (look ! 20 refl))
+        (and-then ! (load ! (from ! (stop !)) (look ! 18 refl)) (no-more !))))))))) (from ! (stop !))
         (init ! 7 refl (lawful view.the-type view-laws.the-laws 𝓤 H A W .typed seen (seenVal ∷ []) is-seen .0)) $
         use1 W (‵ (cells (Holey (mem u16)) (heres u16 us) b o)) (heres-in 𝓤 H A W (mem u16) us b o) $
         feqI ! ℕ (length (heres u16 us)) n (length-map us (here (mem u16)) ∙ long) $ fjoin ! $ close-ref ! tt (Arr (Holey (mem u16)) n) (heres u16 us) $
@@ -219,29 +218,30 @@ module _ {M : Type 1} (𝓤 : URA M) (H : Heap 𝓤) (A : Atoms 𝓤) (W : Given
         scans-blocks 𝓤 H A W 𝓣 ls Post mem″ run κ κ′ q q′ bs rs b o ms marks-fit sixteen all ! known-scan s is-s few (λ ok us went long.
         move ! (0 ∷ 2 ∷ 4 ∷ 6 ∷ 17 ∷ 8 ∷ 25 ∷ 26 ∷ 19 ∷ []) $
         passes-domains 𝓤 H A W 𝓣 ls Post mem″ run κ κ′ q q′ bs rs b o ms marks-fit sixteen all ! known-domains c us is-c long (λ p is-p covers.
-        move ! (0 ∷ 12 ∷ 5 ∷ 27 ∷ 28 ∷ 22 ∷ []) $ tallies 𝓤 H A W 𝓣 ls Post mem″ run κ κ′ q q′ bs rs b o ms marks-fit sixteen all ! known-tally s us is-s long (λ y is-y y-is.
-        move ! (14 ∷ 13 ∷ 15 ∷ 5 ∷ 25 ∷ []) $ reads-block 𝓤 H A W 𝓣 ls Post mem″ run ! known-block κ q bs y is-y (λ z is-z z-is.
-        move ! (6 ∷ 26 ∷ []) $ places 𝓤 H A W 𝓣 ls Post mem″ run ! known-place s is-s (λ place-fits.
-        move ! (12 ∷ 11 ∷ 13 ∷ 1 ∷ 27 ∷ []) $ reads-domain 𝓤 H A W 𝓣 ls Post mem″ run ! known-domain κ′ q′ rs (s .domain - 1) place-fits (λ d is-d d-is.
-        move ! (5 ∷ 6 ∷ 7 ∷ 26 ∷ 27 ∷ []) $ chooses 𝓤 H A W 𝓣 ls Post mem″ run ! known-choose κ q bs g is-g free-few few (λ f is-f f-is.
-        move ! (12 ∷ 1 ∷ 0 ∷ 2 ∷ 9 ∷ 3 ∷ 13 ∷ 28 ∷ 29 ∷ 30 ∷ []) $ lists 𝓤 H A W 𝓣 ls Post mem″ run κ κ′ q q′ bs rs b o ms marks-fit sixteen all ! known-list s g us is-s is-g long list-few few (λ zs listed as-long.
-        move ! (0 ∷ 25 ∷ 26 ∷ 27 ∷ 28 ∷ 1 ∷ 10 ∷ 29 ∷ 2 ∷ 11 ∷ 18 ∷ 3 ∷ 4 ∷ 5 ∷ 24 ∷ 21 ∷ 14 ∷ 15 ∷ 12 ∷ 13 ∷ 9 ∷ 22 ∷ 23 ∷ 19 ∷ 20 ∷ 16 ∷ 17 ∷ 6 ∷ 7 ∷ 8 ∷ 30 ∷ 31 ∷ []) $
-        leaves ok zs p y z d f (as-long ∙ long) is-c is-s is-p is-y is-z is-d is-f 𝓣 ls (saw ok us p y z d f zs went long covers y-is z-is d-is f-is listed)))))))))
+        move ! (10 ∷ 9 ∷ 11 ∷ 21 ∷ 22 ∷ []) $ chooses 𝓤 H A W 𝓣 ls Post mem″ run ! known-choose κ q bs g is-g free-few few (λ f is-f f-is.
+        move ! (5 ∷ 14 ∷ 4 ∷ 10 ∷ 27 ∷ 28 ∷ 23 ∷ []) $ tallies 𝓤 H A W 𝓣 ls Post mem″ run κ κ′ q q′ bs rs b o ms marks-fit sixteen all ! known-tally s f us is-s is-f long (λ y is-y y-is.
+        move ! (7 ∷ 8 ∷ 9 ∷ 6 ∷ 26 ∷ []) $ reads-block 𝓤 H A W 𝓣 ls Post mem″ run ! known-block κ q bs y is-y (λ z is-z z-is.
+        move ! (6 ∷ 27 ∷ []) $ places 𝓤 H A W 𝓣 ls Post mem″ run ! known-place s is-s (λ place-fits.
+        move ! (14 ∷ 13 ∷ 15 ∷ 1 ∷ 28 ∷ []) $ reads-domain 𝓤 H A W 𝓣 ls Post mem″ run ! known-domain κ′ q′ rs (s .domain - 1) place-fits (λ d is-d d-is.
+        move ! (10 ∷ 6 ∷ 5 ∷ 7 ∷ 4 ∷ 15 ∷ 12 ∷ 28 ∷ 29 ∷ 30 ∷ []) $ lists 𝓤 H A W 𝓣 ls Post mem″ run κ κ′ q q′ bs rs b o ms marks-fit sixteen all ! known-list s g us is-s is-g long list-few few (λ zs listed as-long.
+        move ! (0 ∷ 25 ∷ 26 ∷ 27 ∷ 28 ∷ 1 ∷ 9 ∷ 29 ∷ 2 ∷ 10 ∷ 18 ∷ 3 ∷ 4 ∷ 5 ∷ 24 ∷ 21 ∷ 15 ∷ 13 ∷ 14 ∷ 11 ∷ 12 ∷ 22 ∷ 23 ∷ 19 ∷ 20 ∷ 16 ∷ 17 ∷ 6 ∷ 7 ∷ 8 ∷ 30 ∷ 31 ∷ []) $
+        leaves ok zs p y z d (as-long ∙ long) is-c is-s is-p is-y is-z is-d 𝓣 ls f (saw ok us p f y z d zs went long covers f-is y-is z-is d-is listed)))))))))
       where
         -- what the calls ensure, together
-        saw : (ok : Bool) (us : List ℕ) (p : Covering) (y : Tally) (z : Block) (d : Domain) (f : Candidates) (zs : List ℕ) → Walked s (rs .now) (bs .now) 0 (bs .now) ok ms us
-            → length us ≡ n → DomainsPassed (rs .now) (c .blocks) us (length (rs .now)) p → y ≡ tallyOf s us → z ≡ getD (bs .now) (y .number) clearBlock
-            → d ≡ getD (rs .now) (s .domain - 1) clearDomain → Chosen 0 (take (g .free) (bs .now)) noCandidates f → zs ≡ listedFrom s 0 (take (g .list) (bs .now)) us
-            → Looked c s g (bs .now) (rs .now) ms (record { config = c; subject = s; sound = ok; covering = p; tally = y; free = f; domain = d; block = z }) zs
-        saw ok us p y z d f zs went long covers y-is z-is d-is f-is listed = record {
+        saw : (ok : Bool) (us : List ℕ) (p : Covering) (f : Candidate) (y : Tally) (z : Block) (d : Domain) (zs : List ℕ) → Walked s (rs .now) (bs .now) 0 (bs .now) ok ms us
+            → length us ≡ n → DomainsPassed (rs .now) (c .blocks) us (length (rs .now)) p → Chosen 0 (take (g .free) (bs .now)) noCandidate f
+            → y ≡ tallyOf s (f .number) us → z ≡ getD (bs .now) (y .number) clearBlock → d ≡ getD (rs .now) (s .domain - 1) clearDomain → zs ≡ listedFrom s 0 (take (g .list) (bs .now)) us
+            → Looked c s g (bs .now) (rs .now) ms (record { config = c; subject = s; sound = ok; covering = p; tally = y; domain = d; block = z }) zs
+        saw ok us p f y z d zs went long covers f-is y-is z-is d-is listed = record {
           marks = us;
+          free = f;
           entries = long;
           same-config = refl;
           same-subject = refl;
           walked = went;
           covered = subst (λ (k : ℕ). DomainsPassed (rs .now) (c .blocks) us k p) sixteen covers;
-          tallied = y-is;
           chosen = f-is;
+          tallied = y-is;
           same-domain = d-is;
           same-block = z-is;
           listed = listed;

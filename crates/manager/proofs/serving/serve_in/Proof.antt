@@ -63,7 +63,7 @@ use Rattle.tables.specs.declared.change.Outcome.{Outcome}
 use Rattle.tables.proofs.change.Outcome as outcome
 use Rattle.tables.proofs.change.Outcome.Laws as outcome-laws
 use Rattle.survey.specs.Marks.{markCount, noMarks}
-use Rattle.survey.specs.Free.{Chosen, noCandidates}
+use Rattle.survey.specs.Free.{Chosen, noCandidate}
 use Rattle.survey.specs.Listing.{listedFrom}
 use Rattle.survey.specs.Scan.{Walked}
 use Rattle.survey.specs.Sight.{tallyOf}
@@ -132,15 +132,16 @@ views t s v zs all each x =
     record {
       views = record {
         marks = x .marks;
+        free = x .free;
         same-config = x .same-config;
         scanned = record {
           records = all;
           walked = subst (λ (z : Subject). Walked z (t .domains) bs 0 bs (v .sound) noMarks (x .marks)) (sym (x .same-subject)) (x .walked);
         };
         covered = x .covered;
-        tallied = x .tallied ∙ ap (λ (z : Subject). tallyOf z (x .marks)) (sym (x .same-subject));
-        chosen = λ e. subst (λ (cs : List Block). Chosen 0 cs noCandidates (v .free))
+        chosen = λ e. subst (λ (cs : List Block). Chosen 0 cs noCandidate (x .free))
             (wanted-all (t .config) (s .choosing) (t .blocks) all (ap (λ (z : Subject). z .choosing) (sym (x .same-subject)) ∙ e)) (x .chosen);
+        tallied = x .tallied ∙ ap (λ (z : Subject). tallyOf z (x .free .number) (x .marks)) (sym (x .same-subject));
         same-domain = x .same-domain ∙ ap (λ (z : Subject). domainAt t (z .domain)) (sym (x .same-subject));
         same-block = x .same-block;
       };

@@ -1,9 +1,6 @@
 use borrow.Author.Needs.{needs}
 use Rattle.survey.proofs.sight.about.Statement.{statement}
 use Rattle.survey.proofs.sight.about.Tie as tie
-use Rattle.survey.proofs.sight.about.Reads as reads
-use Rattle.survey.proofs.sight.about.Lts as lts
-use Rattle.survey.proofs.sight.open_at.Reads as open-at-reads
 
 open-at-requires : tie.Need-open-at-requires
 open-at-requires c κs = search needs
@@ -12,7 +9,10 @@ returns : tie.Need-returns
 returns c = rw (c .before .if1 .taken) (c .open-at .ensures)
 
 returns-2 : tie.Need-returns-2
-returns-2 c = rw (c .if1 .left)
+returns-2 c = rw (c .before .if1 .left, c .if2 .taken)
+
+returns-3 : tie.Need-returns-3
+returns-3 c = rw (c .before .if1 .left, c .if2 .left)
 
 pub about-spec : {M : Type 1} → statement M
-about-spec = tie.close (tie.spec open-at-requires returns returns-2)
+about-spec = tie.close (tie.spec open-at-requires returns returns-2 returns-3)

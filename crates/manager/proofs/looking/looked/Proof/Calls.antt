@@ -35,12 +35,12 @@ use Rattle.model.proofs.table.Domain as domain
 use Rattle.rules.specs.Drive.{clearBlock, clearDomain}
 use Rattle.survey.specs.Marks.{markCount}
 use Rattle.survey.specs.Scan.{Walked}
-use Rattle.survey.specs.Free.{Chosen, noCandidates}
+use Rattle.survey.specs.Free.{Chosen, noCandidate}
 use Rattle.survey.specs.Listing.{listedFrom}
 use Rattle.survey.specs.Sight.{DomainsPassed, tallyOf}
 use Rattle.survey.specs.declared.scan.Ranges.{Ranges}
 use Rattle.survey.specs.declared.scan.Subject.{Subject}
-use Rattle.survey.specs.declared.free.Candidates.{Candidates}
+use Rattle.survey.specs.declared.free.Candidate.{Candidate}
 use Rattle.survey.specs.declared.sight.Covering.{Covering}
 use Rattle.survey.specs.declared.sight.Tally.{Tally}
 use Rattle.survey.proofs.scan.Ranges as ranges
@@ -163,31 +163,32 @@ module _ {M : Type 1} (𝓤 : URA M) (H : Heap 𝓤) (A : Atoms 𝓤) (W : Given
       domains-gives v = gives 𝓤 H A W passing-domains.ended (passing-domains.clauses 𝓤 H A mem″ run) to-domains v (λ r. fact 𝓤 (Covers r))
           (λ r. exE 𝓤 _ (λ ws. snd∗ 𝓤 (sem 𝓤 H A (lasts passing-domains.ended (κ, (α ∷ [], tt)) (rs, (count, (ms, tt))) ws)) (fact 𝓤 (Covers r))))
 
-    -- ---- `tally_of`, with the marks lent for α
+    -- ---- `tally_of`, with the block n chosen and the marks lent for α
     abbrev pub TallyOf : Contract 𝓤
     TallyOf = tripleOf 𝓤 H A tallying.signature (tallying.spec 𝓤 H A mem″ run)
 
-    module _ (α : ℕ) (s : Subject) (ms : RefT (List ℕ)) where
+    module _ (α : ℕ) (s : Subject) (n : ℕ) (ms : RefT (List ℕ)) where
       abbrev pub TallyMarks : Fml
       TallyMarks = ShrSlice (named 0) (α ∷ []) u16 .own ms (slice ms ∷ [])
 
       abbrev pub to-tally : TallyOf .Ghost
-      to-tally = (((α ∷ [], tt), (fullShare, tt), tt, (s, (ms, tt)), (subjectVal s ∷ [], (slice ms ∷ [], tt))), tt)
+      to-tally = (((α ∷ [], tt), (fullShare, tt), tt, (s, (n, (ms, tt))), (subjectVal s ∷ [], (vint w64 n ∷ [], (slice ms ∷ [], tt)))), tt)
 
-      pub tally-may : Is subject.the-row s (subjectVal s ∷ []) → length (ms .now) ≡ markCount
+      pub tally-may : Is subject.the-row s (subjectVal s ∷ []) → n < 2 ^ 64 → length (ms .now) ≡ markCount
           → ent 𝓤 (sep 𝓤 (A .lft (α ∷ []) fullShare) (sem 𝓤 H A TallyMarks)) (TallyOf .pre to-tally)
-      tally-may is-s all =
+      tally-may is-s wide all =
           qed W (‵ (flft (α ∷ []) fullShare) ∷ ‵ TallyMarks ∷ []) ∵ says ! all $ nothing ! $ move ! (1 ∷ 0 ∷ []) $ join ! $ frame ! $
           nothing ! $ move ! (1 ∷ 0 ∷ []) $ fjoin ! $
+          owned ! u64 (Is u64) (uint-makes 𝓤 H A W w64) n (vint w64 n ∷ []) (refl, wide) $ fjoin ! $
           owned ! subject.the-row (Is subject.the-row) (makes subject.the-type subject-laws.the-plain 𝓤 H A) s (subjectVal s ∷ []) is-s $ fjoin ! $ done !
 
       abbrev pub Tallied : Tally → SProp 𝓤
-      Tallied r = fact 𝓤 (r ≡ tallyOf s (ms .now))
+      Tallied r = fact 𝓤 (r ≡ tallyOf s n (ms .now))
 
       pub tally-gives : (v : Val)
           → ent 𝓤 (TallyOf .post to-tally v) (H .⇛ (ex 𝓤 (Given-back 𝓤 H A W tallying.ended (tallying.clauses 𝓤 H A mem″ run) to-tally v Tallied)))
       tally-gives v = gives 𝓤 H A W tallying.ended (tallying.clauses 𝓤 H A mem″ run) to-tally v Tallied
-          (λ r. exE 𝓤 _ (λ ws. snd∗ 𝓤 (sem 𝓤 H A (lasts tallying.ended (α ∷ [], tt) (s, (ms, tt)) ws)) (Tallied r)))
+          (λ r. exE 𝓤 _ (λ ws. snd∗ 𝓤 (sem 𝓤 H A (lasts tallying.ended (α ∷ [], tt) (s, (n, (ms, tt))) ws)) (Tallied r)))
 
     -- ---- `place`
     abbrev pub PlaceOf : Contract 𝓤
@@ -268,8 +269,8 @@ module _ {M : Type 1} (𝓤 : URA M) (H : Heap 𝓤) (A : Atoms 𝓤) (W : Given
           nothing ! $ owned ! usize (Is usize) (uint-makes 𝓤 H A W w64) n (vint w64 n ∷ []) (refl, wide) $ fjoin ! $
           move ! (1 ∷ 0 ∷ []) $ fjoin ! $ done !
 
-      abbrev pub FreeFound : Candidates → SProp 𝓤
-      FreeFound r = fact 𝓤 (Chosen 0 (take n (bs .now)) noCandidates r)
+      abbrev pub FreeFound : Candidate → SProp 𝓤
+      FreeFound r = fact 𝓤 (Chosen 0 (take n (bs .now)) noCandidate r)
 
       pub choose-gives : (v : Val) → ent 𝓤 (ChooseFree .post to-choose v)
           (H .⇛ (ex 𝓤 (Given-back 𝓤 H A W choosing.ended (choosing.clauses 𝓤 H A mem″ run) to-choose v FreeFound)))

@@ -21,7 +21,7 @@ use Rattle.model.proofs.table.Domain.Laws as domain-laws
 use Rattle.survey.proofs.scan.Ranges.Laws as ranges
 use Rattle.survey.proofs.scan.Subject.Laws as subject
 use Rattle.survey.proofs.sight.Covering.Laws as covering
-use Rattle.survey.proofs.free.Candidates.Laws as candidates
+use Rattle.survey.proofs.free.Candidate.Laws as candidate
 use Rattle.survey.proofs.sight.Tally.Laws as tally
 use Rattle.survey.proofs.sight.View.Laws as view
 use Rattle.manager.proofs.looking.looked.Code as code
@@ -43,11 +43,11 @@ localTypes = view.mir
     ∷ sliceTy (tyRef (named 2) mut mark)
     ∷ tyBool
     ∷ covering.mir
+    ∷ candidate.mir
     ∷ tally.mir
     ∷ block-laws.mir
     ∷ word
     ∷ domain-laws.mir
-    ∷ candidates.mir
     ∷ tyRef erased mut mark
     ∷ sliceTy (tyRef erased mut mark)
     ∷ tyRef erased imm mark

@@ -47,11 +47,14 @@ use Rattle.model.proofs.table.Domain as domain
 use Rattle.survey.specs.Marks.{markCount}
 use Rattle.survey.specs.Scan.{Walked}
 use Rattle.survey.specs.Sight.{DomainsPassed, tallyOf}
+use Rattle.survey.specs.declared.free.Candidate.{Candidate}
 use Rattle.survey.specs.declared.scan.Ranges.{Ranges}
 use Rattle.survey.specs.declared.scan.Subject.{Subject}
 use Rattle.survey.specs.declared.sight.Covering.{Covering}
 use Rattle.survey.specs.Listing.{listedFrom}
 use Rattle.survey.specs.declared.sight.Tally.{Tally}
+use Rattle.survey.proofs.free.Candidate as candidate
+use Rattle.survey.proofs.free.Candidate.Laws as candidate-laws
 use Rattle.survey.proofs.scan.Ranges as ranges
 use Rattle.survey.proofs.scan.Ranges.Laws as ranges-laws
 use Rattle.survey.proofs.sight.Tally as tally
@@ -59,7 +62,7 @@ use Rattle.survey.proofs.sight.Tally.Laws as tally-laws
 use Rattle.survey.proofs.scan.Subject as subject
 use Rattle.survey.proofs.sight.Covering as covering
 use Rattle.survey.proofs.sight.Covering.Laws as covering-laws
-use Rattle.manager.proofs.looking.looked.Code.Mir.{t-1, t-4, t-7, t-10, t-14, t-17}
+use Rattle.manager.proofs.looking.looked.Code.Mir.{t-1, t-4, t-7, t-8, t-11, t-14, t-17}
 use Rattle.manager.proofs.looking.looked.Proof.Calls.{domains-name, list-name, scan-name, tally-name, slice, subjectVal, rangesVal, Blocks, Domains, ScanBlocks, Marks, to-scan, scan-may, scan-gives, PassDomains, SharedMarks, to-domains, domains-may, domains-gives, TallyOf, TallyMarks, to-tally, tally-may, tally-gives, GatherList, ListMarks, to-list, list-may, list-gives}
 use Rattle.manager.proofs.looking.looked.Proof.Frame.{En, holds, empty, word}
 
@@ -71,12 +74,19 @@ count-field = refl
 list-field : fieldOf ranges-laws.mir 1 ≡ known-at (word, get (fieldOf ranges-laws.mir 1) tt .1)
 list-field = refl
 
--- The machine values of a configuration, of what the scan of the domains found, and of what was counted.
+-- The chosen block's number lies in the candidate here.
+chosen-field : fieldOf candidate-laws.mir 0 ≡ known-at (word, get (fieldOf candidate-laws.mir 0) tt .1)
+chosen-field = refl
+
+-- The machine values of a configuration, of what the scan of the domains found, of the Free block, and of what was counted.
 abbrev pub configVal : Config → Val
 configVal c = val config.the-type config-laws.the-laws c
 
 abbrev pub coveringVal : Covering → Val
 coveringVal r = val covering.the-type covering-laws.the-laws r
+
+abbrev pub candidateVal : Candidate → Val
+candidateVal r = val candidate.the-type candidate-laws.the-laws r
 
 abbrev pub tallyVal : Tally → Val
 tallyVal r = val tally.the-type tally-laws.the-laws r
@@ -184,41 +194,45 @@ module _ {M : Type 1} (𝓤 : URA M) (H : Heap 𝓤) (A : Atoms 𝓤) (W : Given
         wide = owed config.the-type config-laws.the-laws c (configVal c ∷ []) is-c .1 .1 .1 .1 .0 .1
 
     -- What the marks have counted for the command's domain, and the block that the command is about.
-    pub tallies : {G : Type 0} {Γ : List (Item 𝓤)} → G → Triple 𝓤 (𝓣 .C tally-name) (TallyOf 𝓤 H A W mem″ run) → (s : Subject) (us : List ℕ)
-        → Is subject.the-row s (subjectVal s ∷ []) → length us ≡ length ms
-        → ((r : Tally) → Is tally.the-row r (tallyVal r ∷ []) → r ≡ tallyOf s us
-        → Goes G (‵ (cells (mem u16) us b o) ∷ holds 𝓤 H ls 4 (subjectVal s) ∷ holds 𝓤 H ls 6 (sliceVal (b, o) (length ms)) ∷ empty 𝓤 H ls 18 ∷ empty 𝓤 H ls 19 ∷ holds 𝓤 H ls 9 (tallyVal r) ∷ Γ) t-10)
-        → Goes G (‵ (cells (mem u16) us b o) ∷ holds 𝓤 H ls 4 (subjectVal s) ∷ holds 𝓤 H ls 6 (sliceVal (b, o) (length ms)) ∷ empty 𝓤 H ls 18 ∷ empty 𝓤 H ls 19 ∷ empty 𝓤 H ls 9 ∷ Γ) t-7
-    tallies {Γ = Γ} g known s us is-s long goes = record {
+    pub tallies : {G : Type 0} {Γ : List (Item 𝓤)} → G → Triple 𝓤 (𝓣 .C tally-name) (TallyOf 𝓤 H A W mem″ run) → (s : Subject) (f : Candidate) (us : List ℕ)
+        → Is subject.the-row s (subjectVal s ∷ []) → Is candidate.the-row f (candidateVal f ∷ []) → length us ≡ length ms
+        → ((r : Tally) → Is tally.the-row r (tallyVal r ∷ []) → r ≡ tallyOf s (f .number) us
+        → Goes G (‵ (cells (mem u16) us b o) ∷ holds 𝓤 H ls 4 (subjectVal s) ∷ holds 𝓤 H ls 9 (candidateVal f) ∷ holds 𝓤 H ls 6 (sliceVal (b, o) (length ms)) ∷ empty 𝓤 H ls 18 ∷ empty 𝓤 H ls 19 ∷ holds 𝓤 H ls 10 (tallyVal r) ∷ Γ) t-11)
+        → Goes G (‵ (cells (mem u16) us b o) ∷ holds 𝓤 H ls 4 (subjectVal s) ∷ holds 𝓤 H ls 9 (candidateVal f) ∷ holds 𝓤 H ls 6 (sliceVal (b, o) (length ms)) ∷ empty 𝓤 H ls 18 ∷ empty 𝓤 H ls 19 ∷ empty 𝓤 H ls 10 ∷ Γ) t-8
+    tallies {Γ = Γ} g known s f us is-s is-f long goes = record {
       prf =
-          qed W (‵ (cells (mem u16) us b o) ∷ holds 𝓤 H ls 4 (subjectVal s) ∷ holds 𝓤 H ls 6 (sliceVal (b, o) (length ms)) ∷ empty 𝓤 H ls 18 ∷ empty 𝓤 H ls 19 ∷ empty 𝓤 H ls 9 ∷ Γ) ∵
-          exec ! (𝓣 .C) (𝓣 .Λ) (En 𝓤 H ls) t-7 (atRet (En 𝓤 H ls) K) $
+          qed W (‵ (cells (mem u16) us b o) ∷ holds 𝓤 H ls 4 (subjectVal s) ∷ holds 𝓤 H ls 9 (candidateVal f) ∷ holds 𝓤 H ls 6 (sliceVal (b, o) (length ms)) ∷ empty 𝓤 H ls 18 ∷ empty 𝓤 H ls 19 ∷ empty 𝓤 H ls 10 ∷ Γ) ∵
+          exec ! (𝓣 .C) (𝓣 .Λ) (En 𝓤 H ls) t-8 (atRet (En 𝓤 H ls) K) $
           -- the marks are lent
-          assigns ! (addr ! (from ! (fld ! refl (hop ! (look-in ! 2 (sub ! 0 refl (whole !))) (stop !))))) (from ! (stop !)) (init ! 3 refl (tt, tt)) $
-          assigns ! (agg ! (and-then ! (load ! (from ! (stop !)) (look ! 3 refl)) (and-then ! (load ! (from ! (fld ! refl (stop !))) (look-in ! 2 (sub ! 1 refl (whole !))))
-          (no-more !)))) (from ! (stop !)) (init ! 4 refl (tt, (tt, (record { fits = fits .0 }, tt)))) $
-          rewrite ! 4 (λ (m : ℕ). holds 𝓤 H ls 19 (sliceVal (b, o) m)) (sym long) refl $
+          assigns ! (addr ! (from ! (fld ! refl (hop ! (look-in ! 3 (sub ! 0 refl (whole !))) (stop !))))) (from ! (stop !)) (init ! 4 refl (tt, tt)) $
+          assigns ! (agg ! (and-then ! (load ! (from ! (stop !)) (look ! 4 refl)) (and-then ! (load ! (from ! (fld ! refl (stop !))) (look-in ! 3 (sub ! 1 refl (whole !))))
+          (no-more !)))) (from ! (stop !)) (init ! 5 refl (tt, (tt, (record { fits = fits .0 }, tt)))) $
+          rewrite ! 5 (λ (m : ℕ). holds 𝓤 H ls 19 (sliceVal (b, o) m)) (sym long) refl $
           rewrite ! 0 (λ (F : Fml). ‵ F) (sym (parts-cells u16 fullShare us b o)) refl $ feqI ! ℕ (length us) (length us) refl $ fjoin ! $
           lft-new ! tt (λ α. move ! (1 ∷ []) $
-          use1 W (later (some (λ (γ : GName). ‵ (TallyMarks 𝓤 H A W mem″ run α s (marks us γ))
+          use1 W (later (some (λ (γ : GName). ‵ (TallyMarks 𝓤 H A W mem″ run α s (f .number) (marks us γ))
           ⊛ ‵ (flent (α ∷ []) (arr-parts (shares u16) (length us) .part fullShare us b o)))))
           (lends-shr-slice 𝓤 H A W u16 (named 0) (α ∷ []) fullShare us b o (subst (Room u16) (sym long) fits)) $ await ! tt $ pick ! (λ γ. split ! $
           -- the call
-          move ! (2 ∷ 0 ∷ []) $ use2 W (raw (TallyOf 𝓤 H A W mem″ run .pre (to-tally 𝓤 H A W mem″ run α s (marks us γ))))
-          (tally-may 𝓤 H A W mem″ run α s (marks us γ) is-s (long ∙ all)) $
-          calls-at ! (fmOf 𝓤 H (W .laws) 𝓣) (TallyOf 𝓤 H A W mem″ run) known (to-tally 𝓤 H A W mem″ run α s (marks us γ))
-          (and-then ! (load ! (from ! (stop !)) (look ! 2 refl)) (and-then ! (load ! (from ! (stop !)) (look ! 5 refl)) (no-more !))) (λ v.
-          use1 W (later (some (λ (r : Tally). given (Is tally.the-row r (v ∷ [])) ((‵ (flft (α ∷ []) fullShare) ⊛ ‵ ftrue) ⊛ raw (fact 𝓤 (r ≡ tallyOf s us))))))
-          (tally-gives 𝓤 H A W mem″ run α s (marks us γ) v) $ await ! tt $ pick ! (λ r. learn ! (λ is. split ! $ move ! (1 ∷ []) $
-          heard ! (r ≡ tallyOf s us) (λ e. split ! $
-          land ! (from ! (stop !)) (init ! 7 refl (lawful tally.the-type tally-laws.the-laws 𝓤 H A W .typed r (v ∷ []) is .0)) $
-          rewrite ! 7 (λ (u : Val). holds 𝓤 H ls 9 u) (ap only (tells tally.the-type tally-laws.the-laws r (v ∷ []) is)) refl $
-          forget ! 5 refl $ forget ! 6 refl $
+          move ! (2 ∷ 0 ∷ []) $ use2 W (raw (TallyOf 𝓤 H A W mem″ run .pre (to-tally 𝓤 H A W mem″ run α s (f .number) (marks us γ))))
+          (tally-may 𝓤 H A W mem″ run α s (f .number) (marks us γ) is-s wide (long ∙ all)) $
+          calls-at ! (fmOf 𝓤 H (W .laws) 𝓣) (TallyOf 𝓤 H A W mem″ run) known (to-tally 𝓤 H A W mem″ run α s (f .number) (marks us γ))
+          (and-then ! (load ! (from ! (stop !)) (look ! 2 refl)) (and-then ! (load ! (from ! (fld ! chosen-field (stop !))) (look-in ! 3 (sub ! 0 chosen-field (whole !))))
+          (and-then ! (load ! (from ! (stop !)) (look ! 6 refl)) (no-more !)))) (λ v.
+          use1 W (later (some (λ (r : Tally). given (Is tally.the-row r (v ∷ [])) ((‵ (flft (α ∷ []) fullShare) ⊛ ‵ ftrue) ⊛ raw (fact 𝓤 (r ≡ tallyOf s (f .number) us))))))
+          (tally-gives 𝓤 H A W mem″ run α s (f .number) (marks us γ) v) $ await ! tt $ pick ! (λ r. learn ! (λ is. split ! $ move ! (1 ∷ []) $
+          heard ! (r ≡ tallyOf s (f .number) us) (λ e. split ! $
+          land ! (from ! (stop !)) (init ! 8 refl (lawful tally.the-type tally-laws.the-laws 𝓤 H A W .typed r (v ∷ []) is .0)) $
+          rewrite ! 8 (λ (u : Val). holds 𝓤 H ls 10 u) (ap only (tells tally.the-type tally-laws.the-laws r (v ∷ []) is)) refl $
+          forget ! 6 refl $ forget ! 7 refl $
           -- the lifetime is ended, and the marks are taken back
           lft-end ! tt $ move ! (0 ∷ 2 ∷ []) $ lent-back ! tt $ fsplit ! $ drop ! $ rewrite ! 0 (λ (F : Fml). ‵ F) (parts-cells u16 fullShare us b o) refl $
           move ! (1 ∷ []) $ drop ! $
           by ! (goes r (subst (λ (vs : List Val). Is tally.the-row r vs) (tells tally.the-type tally-laws.the-laws r (v ∷ []) is) is) e .prf)))))));
     }
+      where
+        wide : f .number < 2 ^ 64
+        wide = owed candidate.the-type candidate-laws.the-laws f (candidateVal f ∷ []) is-f .0 .1
 
     -- What a list tells of the blocks, in the marks. The blocks are not needed any more.
     pub lists : {G : Type 0} {Γ : List (Item 𝓤)} → G → Triple 𝓤 (𝓣 .C list-name) (GatherList 𝓤 H A W mem″ run) → (s : Subject) (p : Ranges) (us : List ℕ)
