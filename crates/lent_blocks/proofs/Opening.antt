@@ -95,13 +95,6 @@ next-none c d r bs owner best store words entries room m long walk l t same all 
           ∙ ap (λ (x : Written). overwritten (r .done) (x .addresses) words) (sym nothing);
     }
   where
-    none-inside : (o : Option ℕ) → chosenBlock (tableWith bs d owner t) ≡ o → foundIn (foundOf (best .number)) ≡ chosenBlock (tableWith bs d owner t)
-        → chosenBlock (tableWith bs d owner t) ≡ none
-    none-inside none e f = e
-    none-inside (some n) e f =
-        let chosen = subst (λ (o : Option ℕ). Choice (tableWith bs d owner t) (size t) o) e (choice (tableWith bs d owner t) (size t)) in
-        absurd (not-found n (f ∙ e) (omega (arith, chosen .inside, l, long, ap (λ (x : Config). x .blocks) same)))
-
     -- the number of a block that is found
     value : Option ℕ → ℕ
     value none = 0
@@ -111,3 +104,10 @@ next-none c d r bs owner best store words entries room m long walk l t same all 
     not-found n e less = by-test (ltb (best .number) 256)
         (λ q. let is : best .number + 1 ≡ n + 1 = ap value (rw q at e) in omega (arith, is, less))
         (λ q. let is : 0 ≡ n + 1 = ap value (rw q at e) in omega (arith, is))
+
+    none-inside : (o : Option ℕ) → chosenBlock (tableWith bs d owner t) ≡ o → foundIn (foundOf (best .number)) ≡ chosenBlock (tableWith bs d owner t)
+        → chosenBlock (tableWith bs d owner t) ≡ none
+    none-inside none e f = e
+    none-inside (some n) e f =
+        let chosen = subst (λ (o : Option ℕ). Choice (tableWith bs d owner t) (size t) o) e (choice (tableWith bs d owner t) (size t)) in
+        absurd (not-found n (f ∙ e) (omega (arith, chosen .inside, l, long, ap (λ (x : Config). x .blocks) same)))
