@@ -8,7 +8,7 @@ use lib.ListN.{length}
 use Rattle.geometry.specs.Address.{fieldsOf}
 use Rattle.geometry.specs.Shape.{withinLimits}
 use Rattle.geometry.specs.declared.shape.Config.{Config}
-use Rattle.manager.specs.Answering.{ReadOf, Viewed}
+use Rattle.manager.specs.Answering.{Answered, ReadOf, Viewed}
 use Rattle.manager.specs.Subjects.{subjectOf, subjectWith}
 use Rattle.model.specs.declared.answer.Answer.{Answer}
 use Rattle.model.specs.declared.command.Command.{Command}
@@ -22,6 +22,9 @@ use Rattle.rules.specs.Drive.{blockAt, size}
 use Rattle.survey.proofs.Listings.{sees-list}
 use Rattle.survey.proofs.Outcomes.{left-as-is}
 use Rattle.survey.proofs.Seeing.{sound-limits}
+use Rattle.placements.proofs.Accepted.{complete-finishes, complete-may}
+use Rattle.placements.specs.Onwards.{completeOf}
+use Rattle.placements.specs.declared.rest.Partial.{Partial}
 use Rattle.survey.specs.Marks.{markCount}
 use Rattle.survey.specs.Sight.{ListGathered, Sees, SeesBlock, SeesChoice, SeesList, SeesPlacement, Sighted, SubjectOf, Views}
 use Rattle.survey.specs.declared.scan.Subject.{Subject}
@@ -113,3 +116,23 @@ pub left : (t : Table) (k : Command) (answer : Answer) (o : Outcome) (store word
 left t k answer o store words bytes store′ words′ bytes′ is s =
     subst (λ (z : Served). ServesCommand t k store words bytes (served z store′ words′ bytes′))
     (sym (ap (outcomeServed t) is ∙ left-as-is t answer)) s
+
+-- A command whose outcome leaves nothing to write.
+pub complete-answer : (v : View) (k : Command) (marks store words bytes : List ℕ) (o : Outcome) (r : Partial) (store′ words′ bytes′ : List ℕ) → r ≡ completeOf o
+    → ((t : Table) → ReadOf t v marks → ServesCommand t k store words bytes (served (outcomeServed t o) store′ words′ bytes′))
+    → Answered v k marks store words bytes r store′ words′ bytes′
+unfolding Answered
+complete-answer v k marks store words bytes o r store′ words′ bytes′ is serves =
+    rw is (complete-may (v .config) (length store′) (length words′) o,
+    λ t p. complete-finishes t k store words bytes o store′ words′ bytes′ (serves t p))
+
+-- The configuration that is seen is the one that was read.
+pub view-config : (v : View) (command : Command) (marks : List ℕ) (r : Sight) → Viewed v command marks
+    → ((t : Table) → Views t v → Sighted t (v .subject) r) → v .config ≡ r .config
+unfolding Viewed
+view-config v command marks r is made =
+    let t = is .1 .0 in
+    let p = is .1 .1 in
+    let same : v .subject ≡ subjectOf (t .config) command = is .0 ∙ ap (λ (z : Config). subjectOf z command) (p .views .same-config) in
+    let q = subst (λ (z : Subject). Sighted t z r) same (made t (p .views)) in
+    p .views .same-config ∙ sym (q .sees (right-subject t command) .same-config)

@@ -1,6 +1,6 @@
 -- Each arm is the contract of the command's function, with what is seen of the table that the pass went over.
 use mathlib.Core.Path.{_≡_, refl}
-use Rattle.manager.proofs.Seeing.{Sighting, Sights, left, marks-long, seen, sees-read, sighting}
+use Rattle.manager.proofs.Seeing.{Sighting, Sights, complete-answer, left, marks-long, seen, sees-read, sighting, view-config}
 use Rattle.manager.specs.Answering.{Answered}
 use Rattle.manager.specs.Subjects.{subjectOf}
 use Rattle.model.specs.declared.command.Command.{Command}
@@ -30,6 +30,9 @@ create-requires : tie.Need-create-requires
 unfolding subjectOf
 create-requires c κs = let o = one (c .before .before .before) _ (c .before .command .given .1) in (o .0, o .1 .sees)
 
+complete-requires : tie.Need-complete-requires
+complete-requires c κs = search needs
+
 enum-known-command-2 : tie.Need-enum-known-command-2
 enum-known-command-2 c = search needs
 
@@ -37,11 +40,17 @@ change-capacity-requires : tie.Need-change-capacity-requires
 unfolding subjectOf
 change-capacity-requires c κs = let o = one (c .before .before .before) _ (c .before .command2 .given .1) in (o .0, o .1 .sees)
 
+complete-requires-2 : tie.Need-complete-requires-2
+complete-requires-2 c κs = search needs
+
 enum-known-command-3 : tie.Need-enum-known-command-3
 enum-known-command-3 c = search needs
 
 delete-requires : tie.Need-delete-requires
 delete-requires c κs = search needs
+
+complete-requires-3 : tie.Need-complete-requires-3
+complete-requires-3 c κs = search needs
 
 enum-known-command-4 : tie.Need-enum-known-command-4
 enum-known-command-4 c = search needs
@@ -50,17 +59,26 @@ erase-requires : tie.Need-erase-requires
 unfolding subjectOf
 erase-requires c κs = let o = one (c .before .before .before .before) _ (c .before .before .command4 .given .1) in (o .0, o .1 .sees, o .1 .names refl, o .1 .chooses refl)
 
+complete-requires-4 : tie.Need-complete-requires-4
+complete-requires-4 c κs = search needs
+
 enum-known-command-5 : tie.Need-enum-known-command-5
 enum-known-command-5 c = search needs
 
 close-requires : tie.Need-close-requires
 close-requires c κs = search needs
 
+complete-requires-5 : tie.Need-complete-requires-5
+complete-requires-5 c κs = search needs
+
 enum-known-command-6 : tie.Need-enum-known-command-6
 enum-known-command-6 c = search needs
 
 free-requires : tie.Need-free-requires
 free-requires c κs = search needs
+
+complete-requires-6 : tie.Need-complete-requires-6
+complete-requires-6 c κs = search needs
 
 enum-known-command-7 : tie.Need-enum-known-command-7
 enum-known-command-7 c = search needs
@@ -76,6 +94,9 @@ write-by-block-requires : tie.Need-write-by-block-requires
 unfolding subjectOf
 write-by-block-requires c κs = let o = one (c .before .before .before .before .before) _ (c .before .before .before .command8 .given .1) in (o .0, o .1 .sees)
 
+complete-requires-7 : tie.Need-complete-requires-7
+complete-requires-7 c κs = search needs
+
 enum-known-command-9 : tie.Need-enum-known-command-9
 enum-known-command-9 c = search needs
 
@@ -86,6 +107,9 @@ read-requires c κs = let o = one (c .before .before .before .before .before) _ 
 unchanged-requires : tie.Need-unchanged-requires
 unchanged-requires c κs = search needs
 
+complete-requires-8 : tie.Need-complete-requires-8
+complete-requires-8 c κs = search needs
+
 enum-known-command-10 : tie.Need-enum-known-command-10
 enum-known-command-10 c = search needs
 
@@ -95,6 +119,9 @@ page-requires c κs = let o = one (c .before .before .before .before) _ (c .befo
 
 unchanged-requires-2 : tie.Need-unchanged-requires-2
 unchanged-requires-2 c κs = search needs
+
+complete-requires-9 : tie.Need-complete-requires-9
+complete-requires-9 c κs = search needs
 
 enum-known-command-11 : tie.Need-enum-known-command-11
 enum-known-command-11 c = search needs
@@ -107,44 +134,56 @@ list-requires c κs = let o = one (c .before .before .before .before) _ (c .befo
 unchanged-requires-3 : tie.Need-unchanged-requires-3
 unchanged-requires-3 c κs = search needs
 
+complete-requires-10 : tie.Need-complete-requires-10
+complete-requires-10 c κs = search needs
+
 enum-known-command-12 : tie.Need-enum-known-command-12
 enum-known-command-12 c = search needs
 
 pulse-requires : tie.Need-pulse-requires
 pulse-requires c κs = search needs
 
+complete-requires-11 : tie.Need-complete-requires-11
+complete-requires-11 c κs = search needs
+
 returns : tie.Need-returns
-unfolding subjectOf Answered
-returns c = let z = c .before .before .before .before .before .before .before .before .before .args in let told = c .before .before .command .given .1 in
-    rw told (λ t p. c .create .ensures t (z .store .now) (z .words .now) (z .bytes .now) (made (c .before .before .before .before) _ told t p .sees))
+unfolding subjectOf
+returns c = let d = c .before in let z = d .before .before .before .before .before .before .before .before .before .args in let told = d .before .before .command .given .1 in
+    
+    rw told (complete-answer (z .view) _ (z .marks .now) (z .store .now) (z .words .now) (z .bytes .now) _ (c .complete .result) _ _ _ (c .complete .ensures) (λ t p. d .create .ensures t (z .store .now) (z .words .now) (z .bytes .now) (made (d .before .before .before .before) _ told t p .sees)))
 
 returns-2 : tie.Need-returns-2
-unfolding subjectOf Answered
-returns-2 c = let z = c .before .before .before .before .before .before .before .before .before .args in let told = c .before .before .command2 .given .1 in
-    rw told (λ t p. c .change-capacity .ensures t (z .store .now) (z .words .now) (z .bytes .now) (made (c .before .before .before .before) _ told t p .sees))
+unfolding subjectOf
+returns-2 c = let d = c .before in let z = d .before .before .before .before .before .before .before .before .before .args in let told = d .before .before .command2 .given .1 in
+    
+    rw told (complete-answer (z .view) _ (z .marks .now) (z .store .now) (z .words .now) (z .bytes .now) _ (c .complete2 .result) _ _ _ (c .complete2 .ensures) (λ t p. d .change-capacity .ensures t (z .store .now) (z .words .now) (z .bytes .now) (made (d .before .before .before .before) _ told t p .sees)))
 
 returns-3 : tie.Need-returns-3
-unfolding subjectOf Answered
-returns-3 c = let z = c .before .before .before .before .before .before .before .before .before .args in let told = c .before .before .command3 .given .1 in
-    rw told (λ t p. c .delete .ensures t (z .store .now) (z .words .now) (z .bytes .now) (made (c .before .before .before .before) _ told t p .sees))
+unfolding subjectOf
+returns-3 c = let d = c .before in let z = d .before .before .before .before .before .before .before .before .before .args in let told = d .before .before .command3 .given .1 in
+    
+    rw told (complete-answer (z .view) _ (z .marks .now) (z .store .now) (z .words .now) (z .bytes .now) _ (c .complete3 .result) _ _ _ (c .complete3 .ensures) (λ t p. d .delete .ensures t (z .store .now) (z .words .now) (z .bytes .now) (made (d .before .before .before .before) _ told t p .sees)))
 
 same-length : tie.Need-same-length
 same-length c = search needs
 
 returns-4 : tie.Need-returns-4
-unfolding subjectOf Answered
-returns-4 c = let z = c .before .before .before .before .before .before .before .before .before .before .before .before .args in let told = c .before .before .before .before .before .command4 .given .1 in
-    rw told (λ t p. let s = made (c .before .before .before .before .before .before .before) _ told t p in c .before .before .erase .ensures t (z .words .now) (z .bytes .now) (s .sees) (s .names refl) (s .chooses refl))
+unfolding subjectOf
+returns-4 c = let d = c .before in let z = d .before .before .before .before .before .before .before .before .before .before .before .before .args in let told = d .before .before .before .before .before .command4 .given .1 in
+    
+    rw told (complete-answer (z .view) _ (z .marks .now) (z .store .now) (z .words .now) (z .bytes .now) _ (c .complete4 .result) _ _ _ (c .complete4 .ensures) (λ t p. let s = made (d .before .before .before .before .before .before .before) _ told t p in d .before .before .erase .ensures t (z .words .now) (z .bytes .now) (s .sees) (s .names refl) (s .chooses refl)))
 
 returns-5 : tie.Need-returns-5
-unfolding subjectOf Answered
-returns-5 c = let z = c .before .before .before .before .before .before .before .before .before .args in let told = c .before .before .command5 .given .1 in
-    rw told (λ t p. let s = made (c .before .before .before .before) _ told t p in c .close .ensures t (z .store .now) (z .words .now) (z .bytes .now) (s .sees) (s .names refl refl))
+unfolding subjectOf
+returns-5 c = let d = c .before in let z = d .before .before .before .before .before .before .before .before .before .args in let told = d .before .before .command5 .given .1 in
+    
+    rw told (complete-answer (z .view) _ (z .marks .now) (z .store .now) (z .words .now) (z .bytes .now) _ (c .complete5 .result) _ _ _ (c .complete5 .ensures) (λ t p. let s = made (d .before .before .before .before) _ told t p in d .close .ensures t (z .store .now) (z .words .now) (z .bytes .now) (s .sees) (s .names refl refl)))
 
 returns-6 : tie.Need-returns-6
-unfolding subjectOf Answered
-returns-6 c = let z = c .before .before .before .before .before .before .before .before .before .args in let told = c .before .before .command6 .given .1 in
-    rw told (λ t p. let s = made (c .before .before .before .before) _ told t p in c .free .ensures t (z .store .now) (z .words .now) (z .bytes .now) (s .sees) (s .names refl refl))
+unfolding subjectOf
+returns-6 c = let d = c .before in let z = d .before .before .before .before .before .before .before .before .before .args in let told = d .before .before .command6 .given .1 in
+    
+    rw told (complete-answer (z .view) _ (z .marks .now) (z .store .now) (z .words .now) (z .bytes .now) _ (c .complete6 .result) _ _ _ (c .complete6 .ensures) (λ t p. let s = made (d .before .before .before .before) _ told t p in d .free .ensures t (z .store .now) (z .words .now) (z .bytes .now) (s .sees) (s .names refl refl)))
 
 same-length-2 : tie.Need-same-length-2
 same-length-2 c = search needs
@@ -155,7 +194,12 @@ same-length-3 c = search needs
 returns-7 : tie.Need-returns-7
 unfolding subjectOf Answered
 returns-7 c = let z = c .before .before .before .before .before .before .before .before .before .before .before .before .before .before .before .args in let told = c .before .before .before .before .before .before .before .before .command7 .given .1 in
-    rw told (λ t p. let s = made (c .before .before .before .before .before .before .before .before .before .before) _ told t p in c .before .before .before .before .write-by-placement .ensures t (z .bytes .now) (s .sees) (s .places refl))
+    let w = c .before .before .before .before .write-by-placement .ensures in
+    let same = view-config (z .view) (z .command) (z .marks .now) (c .before .before .before .before .before .before .before .before .before .before .sighted .result) (c .before .before .before .before .before .before .before .before .before .before .before .before .before .before .before .pre) (c .before .before .before .before .before .before .before .before .before .before .sighted .ensures) in
+    rw told (
+      λ ne. rw same (w .0 ne),
+      λ t p. let s = made (c .before .before .before .before .before .before .before .before .before .before) _ told t p in w .1 t (z .bytes .now) (s .sees) (s .places refl),
+    )
 
 same-length-4 : tie.Need-same-length-4
 same-length-4 c = search needs
@@ -164,9 +208,10 @@ same-length-5 : tie.Need-same-length-5
 same-length-5 c = search needs
 
 returns-8 : tie.Need-returns-8
-unfolding subjectOf Answered
-returns-8 c = let z = c .before .before .before .before .before .before .before .before .before .before .before .before .before .before .before .args in let told = c .before .before .before .before .before .before .before .before .command8 .given .1 in
-    rw told (λ t p. let s = made (c .before .before .before .before .before .before .before .before .before .before) _ told t p in c .before .before .before .before .write-by-block .ensures t (z .bytes .now) (s .sees) (s .names refl refl))
+unfolding subjectOf
+returns-8 c = let d = c .before in let z = d .before .before .before .before .before .before .before .before .before .before .before .before .before .before .before .args in let told = d .before .before .before .before .before .before .before .before .command8 .given .1 in
+    
+    rw told (complete-answer (z .view) _ (z .marks .now) (z .store .now) (z .words .now) (z .bytes .now) _ (c .complete7 .result) _ _ _ (c .complete7 .ensures) (λ t p. let s = made (d .before .before .before .before .before .before .before .before .before .before) _ told t p in d .before .before .before .before .write-by-block .ensures t (z .bytes .now) (s .sees) (s .names refl refl)))
 
 same-length-6 : tie.Need-same-length-6
 same-length-6 c = search needs
@@ -175,36 +220,40 @@ same-length-7 : tie.Need-same-length-7
 same-length-7 c = search needs
 
 returns-9 : tie.Need-returns-9
-unfolding subjectOf Answered
-returns-9 c = let z = c .before .before .before .before .before .before .before .before .before .before .before .before .before .before .args in let told = c .before .before .before .before .before .before .before .command9 .given .1 in
-    rw told (λ t p. let s = made (c .before .before .before .before .before .before .before .before .before) _ told t p in
-    left t _ (c .before .before .before .read .result) (c .unchanged .result) (z .store .now) (z .words .now) (z .bytes .now) _ _ _ (c .unchanged .ensures)
-    (c .before .before .before .read .ensures t (z .bytes .now) (s .sees) (sees-read t _ _ (c .before .before .before .before .before .before .before .before .before .sighted .result) (s .sees) (s .names refl refl))))
+unfolding subjectOf
+returns-9 c = let d = c .before in let z = d .before .before .before .before .before .before .before .before .before .before .before .before .before .before .args in let told = d .before .before .before .before .before .before .before .command9 .given .1 in
+    
+    rw told (complete-answer (z .view) _ (z .marks .now) (z .store .now) (z .words .now) (z .bytes .now) _ (c .complete8 .result) _ _ _ (c .complete8 .ensures) (λ t p. let s = made (d .before .before .before .before .before .before .before .before .before) _ told t p in
+    left t _ (d .before .before .before .read .result) (d .unchanged .result) (z .store .now) (z .words .now) (z .bytes .now) _ _ _ (d .unchanged .ensures)
+    (d .before .before .before .read .ensures t (z .bytes .now) (s .sees) (sees-read t _ _ (d .before .before .before .before .before .before .before .before .before .sighted .result) (s .sees) (s .names refl refl)))))
 
 same-length-8 : tie.Need-same-length-8
 same-length-8 c = search needs
 
 returns-10 : tie.Need-returns-10
-unfolding subjectOf Answered
-returns-10 c = let z = c .before .before .before .before .before .before .before .before .before .before .before .before .before .args in let told = c .before .before .before .before .before .before .command10 .given .1 in
-    rw told (λ t p. let s = made (c .before .before .before .before .before .before .before .before) _ told t p in
-    left t _ (c .before .before .before .page .result) (c .unchanged2 .result) (z .store .now) (z .words .now) (z .bytes .now) _ _ _ (c .unchanged2 .ensures)
-    (c .before .before .before .page .ensures t (z .store .now) (z .words .now) (s .sees) (s .names refl refl)))
+unfolding subjectOf
+returns-10 c = let d = c .before in let z = d .before .before .before .before .before .before .before .before .before .before .before .before .before .args in let told = d .before .before .before .before .before .before .command10 .given .1 in
+    
+    rw told (complete-answer (z .view) _ (z .marks .now) (z .store .now) (z .words .now) (z .bytes .now) _ (c .complete9 .result) _ _ _ (c .complete9 .ensures) (λ t p. let s = made (d .before .before .before .before .before .before .before .before) _ told t p in
+    left t _ (d .before .before .before .page .result) (d .unchanged2 .result) (z .store .now) (z .words .now) (z .bytes .now) _ _ _ (d .unchanged2 .ensures)
+    (d .before .before .before .page .ensures t (z .store .now) (z .words .now) (s .sees) (s .names refl refl))))
 
 same-length-9 : tie.Need-same-length-9
 same-length-9 c = search needs
 
 returns-11 : tie.Need-returns-11
-unfolding subjectOf Answered
-returns-11 c = let z = c .before .before .before .before .before .before .before .before .before .before .before .before .before .args in let told = c .before .before .before .before .before .before .command11 .given .1 in
-    rw told (λ t p. let s = made (c .before .before .before .before .before .before .before .before) _ told t p in
-    left t _ (c .before .before .before .list .result) (c .unchanged3 .result) (z .store .now) (z .words .now) (z .bytes .now) _ _ _ (c .unchanged3 .ensures)
-    (c .before .before .before .list .ensures t (z .store .now) (z .words .now) (s .sees) (s .lists refl)))
+unfolding subjectOf
+returns-11 c = let d = c .before in let z = d .before .before .before .before .before .before .before .before .before .before .before .before .before .args in let told = d .before .before .before .before .before .before .command11 .given .1 in
+    
+    rw told (complete-answer (z .view) _ (z .marks .now) (z .store .now) (z .words .now) (z .bytes .now) _ (c .complete10 .result) _ _ _ (c .complete10 .ensures) (λ t p. let s = made (d .before .before .before .before .before .before .before .before) _ told t p in
+    left t _ (d .before .before .before .list .result) (d .unchanged3 .result) (z .store .now) (z .words .now) (z .bytes .now) _ _ _ (d .unchanged3 .ensures)
+    (d .before .before .before .list .ensures t (z .store .now) (z .words .now) (s .sees) (s .lists refl))))
 
 returns-12 : tie.Need-returns-12
-unfolding subjectOf Answered
-returns-12 c = let z = c .before .before .before .before .before .before .before .before .before .args in let told = c .before .before .command12 .given .1 in
-    rw told (λ t p. c .pulse .ensures t (z .store .now) (z .words .now) (z .bytes .now) (made (c .before .before .before .before) _ told t p .sees))
+unfolding subjectOf
+returns-12 c = let d = c .before in let z = d .before .before .before .before .before .before .before .before .before .args in let told = d .before .before .command12 .given .1 in
+    
+    rw told (complete-answer (z .view) _ (z .marks .now) (z .store .now) (z .words .now) (z .bytes .now) _ (c .complete11 .result) _ _ _ (c .complete11 .ensures) (λ t p. d .pulse .ensures t (z .store .now) (z .words .now) (z .bytes .now) (made (d .before .before .before .before) _ told t p .sees)))
 
 pub answered-spec : {M : Type 1} → statement M
 answered-spec =
@@ -213,31 +262,42 @@ answered-spec =
     sighted-requires
     enum-known-command
     create-requires
+    complete-requires
     enum-known-command-2
     change-capacity-requires
+    complete-requires-2
     enum-known-command-3
     delete-requires
+    complete-requires-3
     enum-known-command-4
     erase-requires
+    complete-requires-4
     enum-known-command-5
     close-requires
+    complete-requires-5
     enum-known-command-6
     free-requires
+    complete-requires-6
     enum-known-command-7
     write-by-placement-requires
     enum-known-command-8
     write-by-block-requires
+    complete-requires-7
     enum-known-command-9
     read-requires
     unchanged-requires
+    complete-requires-8
     enum-known-command-10
     page-requires
     unchanged-requires-2
+    complete-requires-9
     enum-known-command-11
     list-requires
     unchanged-requires-3
+    complete-requires-10
     enum-known-command-12
     pulse-requires
+    complete-requires-11
     returns
     returns-2
     returns-3

@@ -3,7 +3,8 @@
 --     Frame        the locals of the function, and how its frame is taken apart and freed
 --     InMemory     the records and the domains of a table in memory, taken out and put back; the marks
 --     Calls        of each callee, that it may be called, and what its contract gives
---     Start, Look, Answer, Change      the statements, each stretch of them as one step from a context to the next
+--     Start, Look, Answer, Change, Onwards      the statements, each stretch of them as one step from a context to the next
+--     Lend         the store and the words, lent to `answered` and taken back
 -- What is known of a callee is that it meets its contract, which is a hypothesis everywhere but in the last definition.
 use Prim.Native.Nat.{ℕ, _≤_, _<_, _^_}
 use mathlib.Core.Bool.{Bool, true, false, cond}
@@ -15,7 +16,7 @@ use native.Mathlib.Omega.{arith}
 use lib.ListN.{drop as rest, length, length-replicate, length-take, take}
 use lib.Seq.{take-all}
 use base.Fml.{Lft, GName, Share, Fml, ftrue, flft, fobs, fauth, fbor, fobor}
-use base.Logic.{SProp, ent, via, fst∗, emp}
+use base.Logic.{SProp, ent, via, fst∗, emp, id⊢}
 use mir.Syntax.{Local, named}
 use mir.Val.{Val, vptr}
 use prog.Memory.{Memory, fieldOf}
@@ -25,7 +26,7 @@ use ghost.Atoms.{Atoms}
 use sound.WpLaws.{WpFn-mono}
 use contract.Monad.{Fun}
 use contract.Running.{givenOf, tables, tablesOf}
-use types.Kit.{Given, Item, Sq, ‵, raw, _⊛_, ⋆, aim, params′, runs, atRet, _$_, _∵_, !, qed, by, move, drop, split, join, fsplit, fsplit3, fjoin, fjoin3, feqI, suffices, frame, done}
+use types.Kit.{Given, Item, Sq, ‵, raw, _⊛_, ⋆, aim, params′, runs, atRet, _$_, _∵_, !, qed, by, move, use1, drop, split, join, fsplit, fsplit3, fjoin, fjoin3, feqI, suffices, frame, done}
 use types.Mut.{open-ref, close-ref}
 use types.Part.{whole, sub, look-in}
 use types.Run.{look, init, forget, stop, fld, from, load, of-opd, assigns, returns, enter, params1, pass1, pass0}
@@ -39,8 +40,8 @@ use denote.RattleType.{owns}
 use denote.Ref.{RefT, MutRef, ptr-vals, mut-tells}
 use denote.Signature.{plain}
 use denote.Slice.{MutSlice, sliceVal, slice-vals, mut-slice-tells}
-use denote.Steps.{owned, nothing}
-use denote.Struct.Laws.{owed, val}
+use denote.Steps.{owned, nothing, only}
+use denote.Struct.Laws.{owed, tells, val}
 use denote.Triple.Entry.{onEntry}
 use denote.Triple.Spec.{tripleOf, Meets}
 use denote.Triple.Statement.{Triple}
@@ -56,10 +57,14 @@ use Rattle.model.proofs.command.Command as command
 use Rattle.model.proofs.command.Command.Laws as command-laws
 use Rattle.model.proofs.table.Table as table
 use Rattle.model.specs.declared.block.Block.{Block}
+use Rattle.model.specs.declared.table.Domain.{Domain}
 use Rattle.rules.specs.Drive.{domainAt}
-use Rattle.tables.specs.Changing.{changedBlocks, changedBy, presentBlocks}
+use Rattle.placements.specs.Onwards.{MayFinish, WrittenOn}
+use Rattle.placements.specs.declared.rest.Partial.{Partial}
+use Rattle.placements.proofs.rest.Partial as partial
+use Rattle.placements.proofs.rest.Partial.Laws as partial-laws
+use Rattle.tables.specs.Changing.{changedBlocks, presentBlocks, tableWith}
 use Rattle.tables.specs.Serving.{ServesCommand, answering, served}
-use Rattle.tables.specs.declared.change.Outcome.{Outcome}
 use Rattle.tables.proofs.change.Outcome as outcome
 use Rattle.tables.proofs.change.Outcome.Laws as outcome-laws
 use Rattle.survey.specs.Marks.{markCount, noMarks}
@@ -71,6 +76,7 @@ use Rattle.survey.specs.declared.scan.Subject.{Subject}
 use Rattle.survey.specs.declared.sight.View.{View}
 use Rattle.survey.proofs.no_marks.Met as clear-met
 use Rattle.lent_blocks.proofs.change_blocks.Met as write-met
+use Rattle.lent_blocks.proofs.write_onwards.Met as onwards-met
 use Rattle.lent_domains.proofs.put_domain.Met as put-met
 use Rattle.manager.specs.Answering.{Answered, ReadOf, Viewed}
 use Rattle.manager.specs.Looking.{Looked}
@@ -81,13 +87,14 @@ use Rattle.manager.proofs.looking.looked.Met as looked-met
 use Rattle.manager.proofs.subjects.begun.Met as begun-met
 use Rattle.manager.proofs.serving.serve_in as serving
 use Rattle.manager.proofs.serving.serve_in.Code as code
-use Rattle.manager.proofs.serving.serve_in.Code.Mir.{t-33}
+use Rattle.manager.proofs.serving.serve_in.Code.Mir.{t-42}
 use Rattle.manager.proofs.serving.serve_in.Key.{name}
 use Rattle.manager.proofs.serving.serve_in.Statement.{statement}
-use Rattle.manager.proofs.serving.serve_in.Proof.Answer.{answers}
-use Rattle.manager.proofs.serving.serve_in.Proof.Calls.{answered-name, answered-routine, begun-name, begun-routine, clear-name, clear-routine, looked-name, looked-routine, place-name, place-routine, put-name, put-routine, write-name, write-routine}
-use Rattle.manager.proofs.serving.serve_in.Proof.Calls.{Begun, NoMarks, LooksAt, Answers, ChangeBlocks, ChangedPlace, PutDomain, Tokens, Lists, Finals, Lengths}
+use Rattle.manager.proofs.serving.serve_in.Proof.Lend.{answers-lent}
+use Rattle.manager.proofs.serving.serve_in.Proof.Calls.{answered-name, answered-routine, begun-name, begun-routine, clear-name, clear-routine, looked-name, looked-routine, onwards-name, onwards-routine, place-name, place-routine, put-name, put-routine, write-name, write-routine}
+use Rattle.manager.proofs.serving.serve_in.Proof.Calls.{Begun, NoMarks, LooksAt, Answers, ChangeBlocks, WritesOn, ChangedPlace, PutDomain, Tokens, Lists, Finals, Lengths}
 use Rattle.manager.proofs.serving.serve_in.Proof.Change.{writes-blocks, writes-domains}
+use Rattle.manager.proofs.serving.serve_in.Proof.Onwards.{writes-onwards}
 use Rattle.manager.proofs.serving.serve_in.Proof.Frame.{En, localTypes, homes, locals-are, holds, empty, rooms, dies, frame-in, frame-out}
 use Rattle.manager.proofs.serving.serve_in.Proof.InMemory.{Lies, withRecords}
 use Rattle.manager.proofs.serving.serve_in.Proof.Look.{looks}
@@ -98,7 +105,9 @@ mod Calls
 mod Start
 mod Look
 mod Answer
+mod Lend
 mod Change
+mod Onwards
 
 -- At the exit the table is still owned; the command, which is plain data, need not be; the slices were passed on for good.
 abbrev stayed : Stays (serving.ended .signature .params) (serving.ended .kept)
@@ -161,10 +170,20 @@ viewed : (t : Table) (k : Command) (v : View) (zs : List ℕ) → v .config ≡ 
 unfolding Viewed
 viewed t k v zs same is seen = (is ∙ ap (λ (c : Config). subjectOf c k) (sym same), (t, seen))
 
-serves : (t : Table) (k : Command) (v : View) (zs ss ws ys : List ℕ) (r : Outcome) (ss′ ws′ ys′ : List ℕ) → ReadOf t v zs
-    → Answered v k zs ss ws ys r ss′ ws′ ys′ → ServesCommand t k ss ws ys (served (answering (changedBy (r .change) t) (r .answer)) ss′ ws′ ys′)
+serves : (t : Table) (k : Command) (v : View) (zs ss ws ys : List ℕ) (r : Partial) (ss′ ws′ ys′ : List ℕ) (bs : List Block) (w : Domain) (ss″ ws″ : List ℕ)
+    → ReadOf t v zs → length (t .domains) ≡ 16 → Answered v k zs ss ws ys r ss′ ws′ ys′
+    → WrittenOn (t .config) (r .outcome .change .domain) (r .rest) (changedBlocks (r .outcome .change) (take (presentBlocks (t .config)) (t .blocks))) (r .outcome .change .owner)
+    ss′ ws′ bs w ss″ ws″
+    → ServesCommand t k ss ws ys (served (answering (tableWith bs (r .outcome .change .domain) w t) (r .outcome .answer)) ss″ ws″ ys′)
 unfolding Answered
-serves t k v zs ss ws ys r ss′ ws′ ys′ seen said = said t seen
+serves t k v zs ss ws ys r ss′ ws′ ys′ bs w ss″ ws″ seen sixteen said went =
+    said .1 t seen (tableWith bs (r .outcome .change .domain) w t) ss″ ws″ (went t refl sixteen)
+
+-- What is left may be written.
+may-go-on : (t : Table) (k : Command) (v : View) (zs ss ws ys : List ℕ) (r : Partial) (ss′ ws′ ys′ : List ℕ) → v .config ≡ t .config
+    → Answered v k zs ss ws ys r ss′ ws′ ys′ → MayFinish (t .config) (length ss′) (length ws′) r
+unfolding Answered
+may-go-on t k v zs ss ws ys r ss′ ws′ ys′ same said = rw (sym same) (said .0)
 
 -- A call with the table t, which lies at (b, o) and is lent under the name γ, and the command k, whose machine value is kv.
 module _ {M : Type 1} (𝓤 : URA M) (H : Heap 𝓤) (A : Atoms 𝓤) (W : Given 𝓤 H A) (mem″ : Memory → SProp 𝓤) (run : Routine → Fun 𝓤)
@@ -199,18 +218,23 @@ module _ {M : Type 1} (𝓤 : URA M) (H : Heap 𝓤) (A : Atoms 𝓤) (W : Given
   Last = Finals 𝓤 H A W mem″ run κ₁ κ₂ κ₃ q₁ q₂ q₃ store words bytes
 
   -- With the borrow closed over the changed table, the contract is met.
-  module _ (r : Outcome) (z : Ends) (ov : Val) (is : Is outcome.the-row r (ov ∷ []))
+  module _ (r : Partial) (z : Ends) (records : List Block) (w : Domain)
+      (is : Is outcome.the-row (r .outcome) (val outcome.the-type outcome-laws.the-laws (r .outcome) ∷ []))
       (long : Lengths 𝓤 H A W mem″ run κ₁ κ₂ κ₃ q₁ q₂ q₃ store words bytes z)
-      (done-so : ServesCommand t k (store .now) (words .now) (bytes .now) (served (answering (changedBy (r .change) t) (r .answer)) (z .0) (z .1 .0) (z .1 .1))) where
+      (done-so : ServesCommand t k (store .now) (words .now) (bytes .now)
+      (served (answering (tableWith records (r .outcome .change .domain) w t) (r .outcome .answer)) (z .0) (z .1 .0) (z .1 .1))) where
     abbrev after : Table
-    after = changedBy (r .change) t
+    after = tableWith records (r .outcome .change .domain) w t
+
+    abbrev ov : Val
+    ov = val outcome.the-type outcome-laws.the-laws (r .outcome)
 
     -- the machine value of the answer
     abbrev av : Val
-    av = enum.val answer.the-type answer-laws.the-laws (r .answer)
+    av = enum.val answer.the-type answer-laws.the-laws (r .outcome .answer)
 
-    is-a : Is answer.the-row (r .answer) (av ∷ [])
-    is-a = owed outcome.the-type outcome-laws.the-laws r (ov ∷ []) is .0
+    is-a : Is answer.the-row (r .outcome .answer) (av ∷ [])
+    is-a = owed outcome.the-type outcome-laws.the-laws (r .outcome) (ov ∷ []) is .0
 
     abbrev Closed : List (Item 𝓤)
     Closed = ‵ (fobs γ (table.the-row .coded .code after)) ∷ ‵ (fbor κ₀ Held) ∷ ‵ (flft κ₀ q₀) ∷ raw Toks ∷ ‵ (Last z) ∷ []
@@ -218,30 +242,34 @@ module _ {M : Type 1} (𝓤 : URA M) (H : Heap 𝓤) (A : Atoms 𝓤) (W : Given
     exits : ent 𝓤 (⋆ 𝓤 H A Closed) (Post av)
     exits =
         qed W Closed ∵
-        suffices ! _ (ends-at 𝓤 H A serving.ended stayed (serving.clauses 𝓤 H A mem″ run) W bound av (r .answer) (after, (tt, (z .0, (z .1 .0, (z .1 .1, tt)))))
+        suffices ! _ (ends-at 𝓤 H A serving.ended stayed (serving.clauses 𝓤 H A mem″ run) W bound av (r .outcome .answer) (after, (tt, (z .0, (z .1 .0, (z .1 .1, tt)))))
         (tt, (tt, (long .0, (long .1 .0, (long .1 .1, tt)))))) $ says ! done-so $
         move ! (2 ∷ 3 ∷ []) $ join ! $ frame ! $ feqI ! (List Val) (vptr b o ∷ []) (vptr b o ∷ []) refl $ fjoin3 ! $ move ! (1 ∷ []) $ nothing ! $ fjoin ! $
-        move ! (1 ∷ 0 ∷ []) $ fjoin ! $ owned ! answer.the-row (Is answer.the-row) (enum.makes answer.the-type answer-laws.the-plain 𝓤 H A) (r .answer) (av ∷ []) is-a $
+        move ! (1 ∷ 0 ∷ []) $ fjoin ! $ owned ! answer.the-row (Is answer.the-row) (enum.makes answer.the-type answer-laws.the-plain 𝓤 H A) (r .outcome .answer) (av ∷ []) is-a $
         move ! (1 ∷ 0 ∷ []) $ done !
 
     -- The last statements: the answer is read, the borrow closed, and the frame freed.
     leaves : (𝓣 : Tables 𝓤 H) (bs : List ℕ) → Sq W (‵ (Lies 𝓤 H A W b o after) ∷ ‵ (fobor κ₀ q₀ Held) ∷ ‵ (fobs γ (table.the-row .coded .code t))
-        ∷ ‵ (fauth γ (table.the-row .coded .code t)) ∷ raw Toks ∷ ‵ (Last z) ∷ empty 𝓤 H bs 0 ∷ holds 𝓤 H bs 1 (vptr b o) ∷ empty 𝓤 H bs 2 ∷ empty 𝓤 H bs 3
-        ∷ empty 𝓤 H bs 4 ∷ empty 𝓤 H bs 5 ∷ empty 𝓤 H bs 6 ∷ empty 𝓤 H bs 7 ∷ empty 𝓤 H bs 8 ∷ empty 𝓤 H bs 9 ∷ empty 𝓤 H bs 10 ∷ empty 𝓤 H bs 11
-        ∷ empty 𝓤 H bs 12 ∷ holds 𝓤 H bs 13 (val outcome.the-type outcome-laws.the-laws r) ∷ empty 𝓤 H bs 14 ∷ empty 𝓤 H bs 15 ∷ empty 𝓤 H bs 16 ∷ empty 𝓤 H bs 17
+        ∷ ‵ (fauth γ (table.the-row .coded .code t)) ∷ raw Toks ∷ ‵ (Last z)
+        ∷ empty 𝓤 H bs 0 ∷ holds 𝓤 H bs 1 (vptr b o) ∷ empty 𝓤 H bs 2 ∷ empty 𝓤 H bs 3 ∷ empty 𝓤 H bs 4 ∷ empty 𝓤 H bs 5 ∷ empty 𝓤 H bs 6 ∷ empty 𝓤 H bs 7
+        ∷ empty 𝓤 H bs 8 ∷ empty 𝓤 H bs 9 ∷ empty 𝓤 H bs 10 ∷ empty 𝓤 H bs 11 ∷ empty 𝓤 H bs 12
+        ∷ holds 𝓤 H bs 13 (val partial.the-type partial-laws.the-laws r) ∷ holds 𝓤 H bs 14 ov ∷ empty 𝓤 H bs 15 ∷ empty 𝓤 H bs 16 ∷ empty 𝓤 H bs 17
         ∷ empty 𝓤 H bs 18 ∷ empty 𝓤 H bs 19 ∷ empty 𝓤 H bs 20 ∷ empty 𝓤 H bs 21 ∷ empty 𝓤 H bs 22 ∷ empty 𝓤 H bs 23 ∷ empty 𝓤 H bs 24 ∷ empty 𝓤 H bs 25
         ∷ empty 𝓤 H bs 26 ∷ empty 𝓤 H bs 27 ∷ empty 𝓤 H bs 28 ∷ empty 𝓤 H bs 29 ∷ empty 𝓤 H bs 30 ∷ empty 𝓤 H bs 31 ∷ empty 𝓤 H bs 32 ∷ empty 𝓤 H bs 33
-        ∷ empty 𝓤 H bs 34 ∷ empty 𝓤 H bs 35 ∷ empty 𝓤 H bs 36 ∷ ‵ ftrue ∷ dies 𝓤 H bs ∷ []) (runs (𝓣 .C) (𝓣 .Λ) (En 𝓤 H bs) t-33 (atRet (En 𝓤 H bs) Post))
+        ∷ empty 𝓤 H bs 34 ∷ empty 𝓤 H bs 35 ∷ empty 𝓤 H bs 36 ∷ empty 𝓤 H bs 37 ∷ empty 𝓤 H bs 38 ∷ empty 𝓤 H bs 39 ∷ empty 𝓤 H bs 40 ∷ empty 𝓤 H bs 41
+        ∷ empty 𝓤 H bs 42 ∷ empty 𝓤 H bs 43 ∷ empty 𝓤 H bs 44 ∷ empty 𝓤 H bs 45
+        ∷ ‵ ftrue ∷ dies 𝓤 H bs ∷ []) (runs (𝓣 .C) (𝓣 .Λ) (En 𝓤 H bs) t-42 (atRet (En 𝓤 H bs) Post))
     leaves 𝓣 bs =
-        assigns ! (of-opd ! (load ! (from ! (fld ! answer-field (stop !))) (look-in ! 19 (sub ! 0 answer-field (whole !))))) (from ! (stop !))
-        (init ! 6 refl (enum.lawful answer.the-type answer-laws.the-laws 𝓤 H A W tt .typed (r .answer) (av ∷ []) is-a .0)) $
-        close-ref ! tt (mem table.the-row) after $ returns ! (look ! 5 refl) $ forget ! 5 refl $ forget ! 6 refl $ forget ! 18 refl $
+        assigns ! (of-opd ! (load ! (from ! (fld ! answer-field (stop !))) (look-in ! 20 (sub ! 0 answer-field (whole !))))) (from ! (stop !))
+        (init ! 6 refl (enum.lawful answer.the-type answer-laws.the-laws 𝓤 H A W tt .typed (r .outcome .answer) (av ∷ []) is-a .0)) $
+        close-ref ! tt (mem table.the-row) after $ returns ! (look ! 5 refl) $ forget ! 5 refl $ forget ! 6 refl $ forget ! 18 refl $ forget ! 19 refl $
         by ! (frame-out 𝓤 H bs A Closed exits)
 
   -- The whole code.
   module _ (𝓣 : Tables 𝓤 H) (known-begun : Triple 𝓤 (𝓣 .C begun-name) (Begun 𝓤 H A W mem″ run))
       (known-clear : Triple 𝓤 (𝓣 .C clear-name) (NoMarks 𝓤 H A W mem″ run)) (known-looked : Triple 𝓤 (𝓣 .C looked-name) (LooksAt 𝓤 H A W mem″ run))
       (known-answered : Triple 𝓤 (𝓣 .C answered-name) (Answers 𝓤 H A W mem″ run)) (known-write : Triple 𝓤 (𝓣 .C write-name) (ChangeBlocks 𝓤 H A W mem″ run))
+      (known-onwards : Triple 𝓤 (𝓣 .C onwards-name) (WritesOn 𝓤 H A W mem″ run))
       (known-place : Triple 𝓤 (𝓣 .C place-name) (ChangedPlace 𝓤 H A W mem″ run)) (known-put : Triple 𝓤 (𝓣 .C put-name) (PutDomain 𝓤 H A W mem″ run))
       (is-k : Is command.the-row k (kv ∷ []))
       (store-fits : length (store .now) < 2 ^ 64) (words-fit : length (words .now) < 2 ^ 64) (bytes-fit : length (bytes .now) < 2 ^ 64) where
@@ -264,25 +292,36 @@ module _ {M : Type 1} (𝓤 : URA M) (H : Heap 𝓤) (A : Atoms 𝓤) (W : Given
         pass1 ! (init ! 3 refl (tt, (tt, (record { fits = store-fits }, tt)))) $ pass1 ! (init ! 4 refl (tt, (tt, (record { fits = words-fit }, tt)))) $
         pass1 ! (init ! 5 refl (tt, (tt, (record { fits = bytes-fit }, tt)))) $ pass0 ! $
         -- the borrow is opened
-        move ! (40 ∷ []) $ fsplit ! $ move ! (1 ∷ []) $ fsplit ! $ drop ! $ move ! (1 ∷ []) $ fsplit3 ! $ drop ! $ move ! (42 ∷ []) $ split ! $
+        move ! (49 ∷ []) $ fsplit ! $ move ! (1 ∷ []) $ fsplit ! $ drop ! $ move ! (1 ∷ []) $ fsplit3 ! $ drop ! $ move ! (51 ∷ []) $ split ! $
         move ! (2 ∷ 3 ∷ 0 ∷ []) $ open-ref ! tt (mem table.the-row) {b = b} {o = o} $
         -- the statements
         move ! (0 ∷ 7 ∷ 12 ∷ []) $ reads 𝓤 H A W 𝓣 bs Post ! b o t (λ cv is-c sixteen all.
         move ! (2 ∷ 9 ∷ 13 ∷ 14 ∷ 15 ∷ 16 ∷ []) $ begins 𝓤 H A W 𝓣 bs Post mem″ run ! known-begun (t .config) k cv kv is-c is-k (λ sv pv is-s is-p few.
-        move ! (23 ∷ 17 ∷ []) $ clears 𝓤 H A W 𝓣 bs Post mem″ run ! known-clear (λ mv is-m.
-        move ! (8 ∷ 9 ∷ 5 ∷ 2 ∷ 6 ∷ 7 ∷ 1 ∷ 24 ∷ 25 ∷ 26 ∷ 27 ∷ 28 ∷ 29 ∷ 19 ∷ []) $
+        move ! (26 ∷ 17 ∷ []) $ clears 𝓤 H A W 𝓣 bs Post mem″ run ! known-clear (λ mv is-m.
+        move ! (8 ∷ 9 ∷ 5 ∷ 2 ∷ 6 ∷ 7 ∷ 1 ∷ 27 ∷ 28 ∷ 29 ∷ 30 ∷ 31 ∷ 32 ∷ 19 ∷ []) $
         looks 𝓤 H A W 𝓣 bs Post mem″ run known-looked b o t n sixteen all few (subjectOf (t .config) k) (rangesOf (subjectOf (t .config) k) n) noMarks cv sv pv mv is-c is-s is-p is-m (few-wanted n (subjectOf (t .config) k .choosing)) (few-wanted n (subjectOf (t .config) k .listing)) !
         (λ v zs xv zv is-v is-z saw. let seen = views t (subjectOf (t .config) k) v zs all (is-z .1 .0 .1) saw in
-        move ! (13 ∷ 6 ∷ 15 ∷ 23 ∷ 24 ∷ 25 ∷ 30 ∷ 31 ∷ 32 ∷ 33 ∷ 34 ∷ 35 ∷ 36 ∷ 37 ∷ 26 ∷ 20 ∷ 21 ∷ []) $
-        answers 𝓤 H A W 𝓣 bs Post mem″ run known-answered κ₁ κ₂ κ₃ q₁ q₂ q₃ store words bytes store-fits words-fit bytes-fit v zs k
-        xv zv kv is-v is-z is-k (viewed t k v zs (saw .same-config) (saw .same-subject) seen) ! (λ out z ov is-o said long.
-        move ! (17 ∷ 18 ∷ 14 ∷ 19 ∷ 35 ∷ 39 ∷ 40 ∷ 38 ∷ []) $ writes-blocks 𝓤 H A W 𝓣 bs Post mem″ run b o known-write t n all few out ov is-o ! (λ is-ch.
-        move ! (0 ∷ 1 ∷ 4 ∷ 39 ∷ 40 ∷ 41 ∷ 42 ∷ 7 ∷ []) $
-        writes-domains 𝓤 H A W 𝓣 bs Post mem″ run b o known-place known-put (withRecords (changedBlocks (out .change) (take n (t .blocks)) ++ rest n (t .blocks)) t) sixteen
-        (out .change) _ is-ch ! (
-        move ! (0 ∷ 39 ∷ 40 ∷ 41 ∷ 26 ∷ 27 ∷ 42 ∷ 1 ∷ 14 ∷ 15 ∷ 16 ∷ 17 ∷ 28 ∷ 38 ∷ 9 ∷ 29 ∷ 30 ∷ 13 ∷ 12 ∷ 8 ∷ 2 ∷ 3 ∷ 4 ∷ 37 ∷ 31 ∷ 32 ∷ 33 ∷ 34 ∷ 35 ∷ 36 ∷ 18
-        ∷ 19 ∷ 20 ∷ 21 ∷ 22 ∷ 23 ∷ 24 ∷ 25 ∷ 7 ∷ 10 ∷ 11 ∷ 5 ∷ 6 ∷ []) $ leaves out z ov is-o long
-        (serves t k v zs (store .now) (words .now) (bytes .now) out (z .0) (z .1 .0) (z .1 .1) seen said) 𝓣 bs)))))))
+        move ! (13 ∷ 6 ∷ 15 ∷ 23 ∷ 24 ∷ 25 ∷ 33 ∷ 34 ∷ 35 ∷ 36 ∷ 37 ∷ 38 ∷ 39 ∷ 40 ∷ 26 ∷ 20 ∷ 21 ∷ []) $
+        answers-lent 𝓤 H A W 𝓣 bs Post mem″ run known-answered κ₁ κ₂ κ₃ q₁ q₂ q₃ store words bytes store-fits words-fit bytes-fit v zs k
+        xv zv kv is-v is-z is-k (viewed t k v zs (saw .same-config) (saw .same-subject) seen) ! (λ out z rv is-p said long.
+        move ! (19 ∷ 20 ∷ 14 ∷ 21 ∷ 37 ∷ 38 ∷ 44 ∷ 45 ∷ 43 ∷ []) $ writes-blocks 𝓤 H A W 𝓣 bs Post mem″ run b o known-write t n all few out rv is-p ! (λ is-o is-ch many.
+        move ! (0 ∷ 1 ∷ 2 ∷ 5 ∷ 3 ∷ 27 ∷ 12 ∷ 13 ∷ 42 ∷ 43 ∷ 44 ∷ 46 ∷ 47 ∷ 48 ∷ 49 ∷ 50 ∷ 51 ∷ 23 ∷ 24 ∷ []) $
+        writes-onwards 𝓤 H A W 𝓣 bs Post mem″ run b o known-onwards t n sixteen all few refl (changedBlocks (out .outcome .change) (take n (t .blocks))) many out
+        (subst (λ (u : Val). Is partial.the-row out (u ∷ [])) (ap only (tells partial.the-type partial-laws.the-laws out (rv ∷ []) is-p)) is-p) is-ch
+        cv is-c κ₁ κ₂ q₁ q₂ store words (z .0) (z .1 .0) (long .0) (long .1 .0) store-fits words-fit
+        (may-go-on t k v zs (store .now) (words .now) (bytes .now) out (z .0) (z .1 .0) (z .1 .1) (saw .same-config) said) ! (λ w y wv is-w went as-long.
+        move ! (0 ∷ 1 ∷ 3 ∷ 53 ∷ 10 ∷ 54 ∷ 55 ∷ 24 ∷ []) $
+        writes-domains 𝓤 H A W 𝓣 bs Post mem″ run b o known-place known-put (withRecords (y .0 ++ rest n (t .blocks)) t) sixteen
+        (out .outcome .change) w _ wv is-ch is-w ! (
+        move ! (40 ∷ []) $ nothing ! $
+        move ! (1 ∷ 0 ∷ []) $ join ! $
+        move ! (25 ∷ 0 ∷ []) $ join ! $
+        move ! (24 ∷ 0 ∷ []) $ join ! $ use1 W (raw Toks) (id⊢ 𝓤 _) $
+        move ! (23 ∷ 39 ∷ []) $ fjoin ! $
+        move ! (23 ∷ 0 ∷ []) $ fjoin ! $
+        move ! (2 ∷ 48 ∷ 49 ∷ 50 ∷ 1 ∷ 0 ∷ 51 ∷ 3 ∷ 28 ∷ 13 ∷ 14 ∷ 29 ∷ 12 ∷ 47 ∷ 11 ∷ 38 ∷ 39 ∷ 27 ∷ 26 ∷ 10 ∷ 23 ∷ 4 ∷ 15 ∷ 16 ∷ 6 ∷ 5 ∷ 46 ∷ 40 ∷ 41 ∷ 42 ∷ 43 ∷ 44 ∷ 45 ∷ 30 ∷ 31 ∷ 32 ∷ 33 ∷ 34 ∷ 35 ∷ 36 ∷ 37 ∷ 9 ∷ 24 ∷ 25 ∷ 17 ∷ 18 ∷ 19 ∷ 20 ∷ 21 ∷ 22 ∷ 7 ∷ 8 ∷ 52 ∷ 53 ∷ []) $ leaves out (y .1 .0, (y .1 .1, z .1 .1)) (y .0) w is-o
+        (as-long .0 ∙ long .0, (as-long .1 ∙ long .1 .0, long .1 .1))
+        (serves t k v zs (store .now) (words .now) (bytes .now) out (z .0) (z .1 .0) (z .1 .1) (y .0) w (y .1 .0) (y .1 .1) seen sixteen said went) 𝓣 bs))))))))
 
     body : ent 𝓤 (onEntry 𝓤 H A serving.signature (κ₀, (κ₁, (κ₂, (κ₃, tt)))) (q₀, (q₁, (q₂, (q₃, tt)))) x at) (WpFn 𝓤 H (𝓣 .C) (𝓣 .Λ) code.function passed Post)
     body =
@@ -300,6 +339,7 @@ module _ {M : Type 1} (𝓤 : URA M) (H : Heap 𝓤) (A : Atoms 𝓤) (W : Given
     (known-looked : Triple 𝓤 (𝓣 .C looked-name) (LooksAt 𝓤 H A W mem″ run))
     (known-answered : Triple 𝓤 (𝓣 .C answered-name) (Answers 𝓤 H A W mem″ run))
     (known-write : Triple 𝓤 (𝓣 .C write-name) (ChangeBlocks 𝓤 H A W mem″ run))
+    (known-onwards : Triple 𝓤 (𝓣 .C onwards-name) (WritesOn 𝓤 H A W mem″ run))
     (known-place : Triple 𝓤 (𝓣 .C place-name) (ChangedPlace 𝓤 H A W mem″ run))
     (known-put : Triple 𝓤 (𝓣 .C put-name) (PutDomain 𝓤 H A W mem″ run)) where
   -- The walk at every choice of arguments, and the contract that it meets.
@@ -319,7 +359,7 @@ module _ {M : Type 1} (𝓤 : URA M) (H : Heap 𝓤) (A : Atoms 𝓤) (W : Given
       (λ κs qs bounds a g are. via 𝓤 _ (fst∗ 𝓤 _ (emp 𝓤))
       (body 𝓤 H A W mem″ run (κs .0) (κs .1 .0) (κs .1 .1 .0) (κs .1 .1 .1 .0) (qs .0) (qs .1 .0) (qs .1 .1 .0) (qs .1 .1 .1 .0)
       (a .0 .ptr .0) (a .0 .ptr .1) (a .0 .name) (a .0 .now) (a .1 .0) (enum.val command.the-type command-laws.the-laws (a .1 .0)) (a .1 .1 .0) (a .1 .1 .1 .0) (a .1 .1 .1 .1 .0)
-      𝓣 known-begun known-clear known-looked known-answered known-write known-place known-put (are .1 .0) (are .1 .1 .0 .0 .1 .0) (are .1 .1 .1 .0 .0 .1 .0) (are .1 .1 .1 .1 .0 .0 .1 .0)))
+      𝓣 known-begun known-clear known-looked known-answered known-write known-onwards known-place known-put (are .1 .0) (are .1 .1 .0 .0 .1 .0) (are .1 .1 .1 .0 .0 .1 .0) (are .1 .1 .1 .1 .0 .0 .1 .0)))
 
   meets : Meets 𝓤 H A serving.signature (WpFn 𝓤 H (𝓣 .C) (𝓣 .Λ) code.function) (serving.spec 𝓤 H A mem″ run)
   meets = walk-meets 𝓤 H A serving.ended stayed W (
@@ -342,6 +382,7 @@ serve-in-spec 𝓤 H 𝓜 𝓖 𝓡 =
     (cited 𝓤 H (LooksAt 𝓤 H (𝓖 .A) W (𝓜 .mem) (𝓡 .run)) 𝓜 𝓡 code.env looked-name looked-routine code.calls-manager·looking·looked (looked-met.met 𝓤 H 𝓜 𝓖 𝓡))
     (cited 𝓤 H (Answers 𝓤 H (𝓖 .A) W (𝓜 .mem) (𝓡 .run)) 𝓜 𝓡 code.env answered-name answered-routine code.calls-manager·answering·answered (answered-met.met 𝓤 H 𝓜 𝓖 𝓡))
     (cited 𝓤 H (ChangeBlocks 𝓤 H (𝓖 .A) W (𝓜 .mem) (𝓡 .run)) 𝓜 𝓡 code.env write-name write-routine code.calls-lent-blocks·change-blocks (write-met.met 𝓤 H 𝓜 𝓖 𝓡))
+    (cited 𝓤 H (WritesOn 𝓤 H (𝓖 .A) W (𝓜 .mem) (𝓡 .run)) 𝓜 𝓡 code.env onwards-name onwards-routine code.calls-lent-blocks·write-onwards (onwards-met.met 𝓤 H 𝓜 𝓖 𝓡))
     (cited 𝓤 H (ChangedPlace 𝓤 H (𝓖 .A) W (𝓜 .mem) (𝓡 .run)) 𝓜 𝓡 code.env place-name place-routine code.calls-manager·answering·changed-place (place-met.met 𝓤 H 𝓜 𝓖 𝓡))
     (cited 𝓤 H (PutDomain 𝓤 H (𝓖 .A) W (𝓜 .mem) (𝓡 .run)) 𝓜 𝓡 code.env put-name put-routine code.calls-lent-domains·put-domain (put-met.met 𝓤 H 𝓜 𝓖 𝓡)))
   where

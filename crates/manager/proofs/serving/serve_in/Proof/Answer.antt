@@ -35,9 +35,9 @@ use denote.Triple.Statement.{Triple}
 use borrow.Rule.Slice.Shared.{parts-cells}
 use Rattle.model.specs.declared.command.Command.{Command}
 use Rattle.model.proofs.command.Command as command
-use Rattle.tables.specs.declared.change.Outcome.{Outcome}
-use Rattle.tables.proofs.change.Outcome as outcome
-use Rattle.tables.proofs.change.Outcome.Laws as outcome-laws
+use Rattle.placements.specs.declared.rest.Partial.{Partial}
+use Rattle.placements.proofs.rest.Partial as partial
+use Rattle.placements.proofs.rest.Partial.Laws as partial-laws
 use Rattle.survey.specs.declared.sight.View.{View}
 use Rattle.survey.proofs.sight.View as view
 use Rattle.manager.specs.Answering.{Answered, Viewed}
@@ -87,20 +87,20 @@ module _ {M : Type 1} (𝓤 : URA M) (H : Heap 𝓤) (A : Atoms 𝓤) (W : Given
   to α γ = to-answer 𝓤 H A W mem″ run κ₁ κ₂ κ₃ q₁ q₂ q₃ store words bytes α x (sights γ) k xv kv
 
   pub answers : {G : Type 0} {Γ : List (Item 𝓤)} → G
-      → ((r : Outcome) (z : Lists 𝓤 H A W mem″ run κ₁ κ₂ κ₃ q₁ q₂ q₃ store words bytes) (rv : Val) → Is outcome.the-row r (rv ∷ [])
+      → ((r : Partial) (z : Lists 𝓤 H A W mem″ run κ₁ κ₂ κ₃ q₁ q₂ q₃ store words bytes) (rv : Val) → Is partial.the-row r (rv ∷ [])
       → Answered x k ms (store .now) (words .now) (bytes .now) r (z .0) (z .1 .0) (z .1 .1)
       → Lengths 𝓤 H A W mem″ run κ₁ κ₂ κ₃ q₁ q₂ q₃ store words bytes z
-      → Goes 𝓤 H A W 𝓣 bs K G (empty 𝓤 H bs 12 ∷ empty 𝓤 H bs 11 ∷ empty 𝓤 H bs 2 ∷ empty 𝓤 H bs 3 ∷ empty 𝓤 H bs 4 ∷ empty 𝓤 H bs 5
-      ∷ empty 𝓤 H bs 24 ∷ empty 𝓤 H bs 25 ∷ empty 𝓤 H bs 26 ∷ empty 𝓤 H bs 27 ∷ empty 𝓤 H bs 28 ∷ empty 𝓤 H bs 29 ∷ empty 𝓤 H bs 30 ∷ empty 𝓤 H bs 31
+      → Goes 𝓤 H A W 𝓣 bs K G (empty 𝓤 H bs 12 ∷ empty 𝓤 H bs 11 ∷ empty 𝓤 H bs 2 ∷ holds 𝓤 H bs 3 (slice store) ∷ holds 𝓤 H bs 4 (slice words) ∷ empty 𝓤 H bs 5
+      ∷ empty 𝓤 H bs 27 ∷ empty 𝓤 H bs 28 ∷ empty 𝓤 H bs 29 ∷ empty 𝓤 H bs 30 ∷ empty 𝓤 H bs 31 ∷ empty 𝓤 H bs 32 ∷ empty 𝓤 H bs 33 ∷ empty 𝓤 H bs 34
       ∷ holds 𝓤 H bs 13 rv ∷ raw Toks ∷ ‵ (Last z) ∷ Γ) t-24)
       → Goes 𝓤 H A W 𝓣 bs K G (holds 𝓤 H bs 12 xv ∷ holds 𝓤 H bs 11 mv ∷ holds 𝓤 H bs 2 kv ∷ holds 𝓤 H bs 3 (slice store)
-      ∷ holds 𝓤 H bs 4 (slice words) ∷ holds 𝓤 H bs 5 (slice bytes) ∷ empty 𝓤 H bs 24 ∷ empty 𝓤 H bs 25 ∷ empty 𝓤 H bs 26 ∷ empty 𝓤 H bs 27 ∷ empty 𝓤 H bs 28
-      ∷ empty 𝓤 H bs 29 ∷ empty 𝓤 H bs 30 ∷ empty 𝓤 H bs 31 ∷ empty 𝓤 H bs 13 ∷ raw Toks ∷ ‵ Lent ∷ Γ) t-15
+      ∷ holds 𝓤 H bs 4 (slice words) ∷ holds 𝓤 H bs 5 (slice bytes) ∷ empty 𝓤 H bs 27 ∷ empty 𝓤 H bs 28 ∷ empty 𝓤 H bs 29 ∷ empty 𝓤 H bs 30 ∷ empty 𝓤 H bs 31
+      ∷ empty 𝓤 H bs 32 ∷ empty 𝓤 H bs 33 ∷ empty 𝓤 H bs 34 ∷ empty 𝓤 H bs 13 ∷ raw Toks ∷ ‵ Lent ∷ Γ) t-15
   answers {Γ = Γ} g goes = record {
     prf =
         qed W (holds 𝓤 H bs 12 xv ∷ holds 𝓤 H bs 11 mv ∷ holds 𝓤 H bs 2 kv ∷ holds 𝓤 H bs 3 (slice store)
-        ∷ holds 𝓤 H bs 4 (slice words) ∷ holds 𝓤 H bs 5 (slice bytes) ∷ empty 𝓤 H bs 24 ∷ empty 𝓤 H bs 25 ∷ empty 𝓤 H bs 26 ∷ empty 𝓤 H bs 27 ∷ empty 𝓤 H bs 28
-        ∷ empty 𝓤 H bs 29 ∷ empty 𝓤 H bs 30 ∷ empty 𝓤 H bs 31 ∷ empty 𝓤 H bs 13 ∷ raw Toks ∷ ‵ Lent ∷ Γ) ∵
+        ∷ holds 𝓤 H bs 4 (slice words) ∷ holds 𝓤 H bs 5 (slice bytes) ∷ empty 𝓤 H bs 27 ∷ empty 𝓤 H bs 28 ∷ empty 𝓤 H bs 29 ∷ empty 𝓤 H bs 30 ∷ empty 𝓤 H bs 31
+        ∷ empty 𝓤 H bs 32 ∷ empty 𝓤 H bs 33 ∷ empty 𝓤 H bs 34 ∷ empty 𝓤 H bs 13 ∷ raw Toks ∷ ‵ Lent ∷ Γ) ∵
         exec ! (𝓣 .C) (𝓣 .Λ) (En 𝓤 H bs) t-15 (atRet (En 𝓤 H bs) K) $
         -- the four slices
         assigns ! (addr ! (from ! (stop !))) (from ! (stop !)) (init ! 6 refl (tt, tt)) $
@@ -125,19 +125,19 @@ module _ {M : Type 1} (𝓤 : URA M) (H : Heap 𝓤) (A : Atoms 𝓤) (W : Given
         move ! (2 ∷ 17 ∷ []) $ join ! $ move ! (0 ∷ 1 ∷ 17 ∷ []) $
         use3 W (raw (Answers 𝓤 H A W mem″ run .pre (to α γ)))
         (answer-may 𝓤 H A W mem″ run κ₁ κ₂ κ₃ q₁ q₂ q₃ store words bytes α x (sights γ) k xv kv is-x is-k viewed) $
-        rewrite ! 8 (λ (m : ℕ). holds 𝓤 H bs 25 (sliceVal (l, 0) m)) (sym each) refl $
+        rewrite ! 8 (λ (m : ℕ). holds 𝓤 H bs 28 (sliceVal (l, 0) m)) (sym each) refl $
         calls-at ! (fmOf 𝓤 H (W .laws) 𝓣) (Answers 𝓤 H A W mem″ run) known (to α γ)
         (and-then ! (load ! (from ! (stop !)) (look ! 2 refl)) (and-then ! (load ! (from ! (stop !)) (look ! 8 refl)) (and-then ! (load ! (from ! (stop !)) (look ! 3 refl))
         (and-then ! (load ! (from ! (stop !)) (look ! 10 refl)) (and-then ! (load ! (from ! (stop !)) (look ! 12 refl)) (and-then ! (load ! (from ! (stop !)) (look ! 14 refl))
         (no-more !))))))) (λ v.
-        use1 W (later (some (λ (r : Outcome). given (Is outcome.the-row r (v ∷ [])) ((‵ (flft (α ∷ []) fullShare) ⊛ raw Toks)
+        use1 W (later (some (λ (r : Partial). given (Is partial.the-row r (v ∷ [])) ((‵ (flft (α ∷ []) fullShare) ⊛ raw Toks)
         ⊛ some (λ (z : Lists 𝓤 H A W mem″ run κ₁ κ₂ κ₃ q₁ q₂ q₃ store words bytes).
         given (Answered x k ms (store .now) (words .now) (bytes .now) r (z .0) (z .1 .0) (z .1 .1)
         × Lengths 𝓤 H A W mem″ run κ₁ κ₂ κ₃ q₁ q₂ q₃ store words bytes z) (‵ (Last z)))))))
         (answer-gives 𝓤 H A W mem″ run κ₁ κ₂ κ₃ q₁ q₂ q₃ store words bytes α x (sights γ) k xv kv v) $ await ! tt $
         pick ! (λ r. learn ! (λ is-r. split ! $ move ! (1 ∷ []) $ pick ! (λ z. learn ! (λ f. move ! (1 ∷ []) $ split ! $
-        land ! (from ! (stop !)) (init ! 17 refl (lawful outcome.the-type outcome-laws.the-laws 𝓤 H A W .typed r (v ∷ []) is-r .0)) $
-        forget ! 4 refl $ forget ! 5 refl $ forget ! 6 refl $ forget ! 7 refl $ forget ! 8 refl $ forget ! 9 refl $ forget ! 10 refl $ forget ! 11 refl $ forget ! 12 refl $
+        land ! (from ! (stop !)) (init ! 17 refl (lawful partial.the-type partial-laws.the-laws 𝓤 H A W .typed r (v ∷ []) is-r .0)) $
+        forget ! 4 refl $ forget ! 5 refl $ forget ! 8 refl $ forget ! 9 refl $ forget ! 10 refl $ forget ! 11 refl $ forget ! 12 refl $
         forget ! 13 refl $ forget ! 14 refl $ forget ! 15 refl $ forget ! 16 refl $
         -- the marks come back, and are not needed any more
         lft-end ! tt $ move ! (0 ∷ 3 ∷ []) $ lent-back ! tt $ fsplit ! $ drop ! $ rewrite ! 0 (λ (F : Fml). ‵ F) (parts-cells u16 fullShare ms l 0) refl $

@@ -39,9 +39,13 @@ use Rattle.model.proofs.command.Command as command
 use Rattle.model.proofs.command.Command.Laws as command-laws
 use Rattle.model.proofs.table.Domain as domain
 use Rattle.model.proofs.table.Domain.Laws as domain-laws
-use Rattle.tables.specs.Changing.{changedBlocks}
+use Rattle.placements.specs.Onwards.{MayGoOn, WrittenOn}
+use Rattle.placements.specs.declared.rest.Partial.{Partial}
+use Rattle.placements.specs.declared.rest.Rest.{Rest}
+use Rattle.placements.proofs.rest.Rest as rests
+use Rattle.placements.proofs.rest.Rest.Laws as rests-laws
+use Rattle.tables.specs.Changing.{changedBlocks, presentBlocks}
 use Rattle.tables.specs.declared.change.Change.{Change}
-use Rattle.tables.specs.declared.change.Outcome.{Outcome}
 use Rattle.tables.proofs.change.Change as change
 use Rattle.tables.proofs.change.Change.Laws as change-laws
 use Rattle.survey.specs.Marks.{markCount, noMarks}
@@ -56,6 +60,7 @@ use Rattle.survey.proofs.sight.View as view
 use Rattle.survey.proofs.sight.View.Laws as view-laws
 use Rattle.survey.proofs.no_marks as clearing
 use Rattle.lent_blocks.proofs.change_blocks as writing
+use Rattle.lent_blocks.proofs.write_onwards as onwards
 use Rattle.lent_domains.proofs.put_domain as putting
 use Rattle.manager.specs.Answering.{Answered, Viewed, changedPlace}
 use Rattle.manager.specs.Looking.{Looked}
@@ -71,6 +76,7 @@ pub use Rattle.manager.proofs.subjects.begun.Symbol.{name as begun-name
 pub use Rattle.manager.proofs.answering.changed_place.Symbol.{name as place-name, routine as place-routine}
 pub use Rattle.manager.proofs.looking.looked.Symbol.{name as looked-name, routine as looked-routine}
 pub use Rattle.survey.proofs.no_marks.Symbol.{name as clear-name, routine as clear-routine}
+pub use Rattle.lent_blocks.proofs.write_onwards.Symbol.{name as onwards-name, routine as onwards-routine}
 pub use Rattle.lent_blocks.proofs.change_blocks.Symbol.{name as write-name, routine as write-routine}
 pub use Rattle.lent_domains.proofs.put_domain.Symbol.{name as put-name, routine as put-routine}
 
@@ -230,6 +236,96 @@ module _ {M : Type 1} (𝓤 : URA M) (H : Heap 𝓤) (A : Atoms 𝓤) (W : Given
           (H .⇛ (ex 𝓤 (Given-back 𝓤 H A W writing.ended (writing.clauses 𝓤 H A mem″ run) to-write v (λ r. ex 𝓤 Written))))
       write-gives v = gives 𝓤 H A W writing.ended (writing.clauses 𝓤 H A mem″ run) to-write v (λ r. ex 𝓤 Written) (λ r. exE 𝓤 _ (λ ws. write-told (ws .0)))
 
+    -- ---- `write_onwards`, with the records xs lent for α; the store and the words are passed on for good
+    abbrev pub WritesOn : Contract 𝓤
+    WritesOn = tripleOf 𝓤 H A onwards.signature (onwards.spec 𝓤 H A mem″ run)
+
+    module _ (α : ℕ) (κ₁ κ₂ : Lft) (q₁ q₂ : Share) (xs : RefT (List Block)) (c : Config) (d : ℕ) (w : Domain) (r : Rest) (store words : RefT (List ℕ)) (cv dv wv rv : Val) where
+      abbrev pub LentBlocks : Fml
+      LentBlocks = MutSlice (named 0) (α ∷ []) block.the-row .own xs (sliceVal (xs .ptr) (length (xs .now)) ∷ [])
+
+      abbrev pub LentStore : Fml
+      LentStore = MutSlice (named 1) κ₁ u64 .own store (sliceVal (store .ptr) (length (store .now)) ∷ [])
+
+      abbrev pub LentWords : Fml
+      LentWords = MutSlice (named 2) κ₂ u64 .own words (sliceVal (words .ptr) (length (words .now)) ∷ [])
+
+      abbrev pub to-onwards : WritesOn .Ghost
+      to-onwards = (
+        (
+          (α ∷ [], (κ₁, (κ₂, tt))),
+          (fullShare, (q₁, (q₂, tt))),
+          tt,
+          (xs, (c, (d, (w, (r, (store, (words, tt))))))),
+          (
+            sliceVal (xs .ptr) (length (xs .now)) ∷ [],
+            (
+              cv ∷ [],
+              (
+                dv ∷ [],
+                (
+                  wv ∷ [],
+                  (rv ∷ [], (sliceVal (store .ptr) (length (store .now)) ∷ [], (sliceVal (words .ptr) (length (words .now)) ∷ [], tt))),
+                ),
+              ),
+            ),
+          ),
+        ),
+        tt,
+      )
+
+      -- the tokens
+      abbrev pub Held-for : SProp 𝓤
+      Held-for = sep 𝓤 (A .lft (α ∷ []) fullShare) (sep 𝓤 (A .lft κ₁ q₁) (A .lft κ₂ q₂))
+
+      pub onwards-may : Is config.the-row c (cv ∷ []) → Is u64 d (dv ∷ []) → Is domain.the-row w (wv ∷ []) → Is rests.the-row r (rv ∷ [])
+          → (¬ (r .count .0 ≡ 0) → MayGoOn c (length (store .now)) (length (words .now)) d w r) → length (xs .now) ≡ presentBlocks c
+          → ent 𝓤 (sep 𝓤 Held-for (sep 𝓤 (sem 𝓤 H A LentBlocks) (sep 𝓤 (sem 𝓤 H A LentStore) (sem 𝓤 H A LentWords)))) (WritesOn .pre to-onwards)
+      onwards-may is-c is-d is-w is-r may long =
+          qed W ((‵ (flft (α ∷ []) fullShare) ⊛ (‵ (flft κ₁ q₁) ⊛ ‵ (flft κ₂ q₂))) ∷ ‵ LentBlocks ∷ ‵ LentStore ∷ ‵ LentWords ∷ []) ∵ says ! (may, long) $
+          split ! $ move ! (1 ∷ []) $ split ! $ move ! (1 ∷ []) $ nothing ! $ move ! (1 ∷ 0 ∷ []) $ join ! $ move ! (1 ∷ 0 ∷ []) $ join ! $ move ! (1 ∷ 0 ∷ []) $ join ! $ frame ! $
+          nothing ! $ move ! (3 ∷ 0 ∷ []) $ fjoin ! $ move ! (2 ∷ 0 ∷ []) $ fjoin ! $
+          owned ! rests.the-row (Is rests.the-row) (makes rests.the-type rests-laws.the-plain 𝓤 H A) r (rv ∷ []) is-r $ fjoin ! $
+          owned ! domain.the-row (Is domain.the-row) (makes domain.the-type domain-laws.the-plain 𝓤 H A) w (wv ∷ []) is-w $ fjoin ! $
+          owned ! u64 (Is u64) (uint-makes 𝓤 H A W w64) d (dv ∷ []) is-d $ fjoin ! $
+          owned ! config.the-row (Is config.the-row) (makes config.the-type config-laws.the-plain 𝓤 H A) c (cv ∷ []) is-c $ fjoin ! $
+          move ! (1 ∷ 0 ∷ []) $ fjoin ! $ done !
+
+      -- the last records, entries and words, and what is known of them
+      abbrev pub Ends : Type 0
+      Ends = List Block × (List ℕ × List ℕ)
+
+      abbrev pub Goes-on : Domain → Ends → Type 0
+      Goes-on w′ z = WrittenOn c d r (xs .now) w (store .now) (words .now) (z .0) w′ (z .1 .0) (z .1 .1)
+
+      abbrev pub As-long : Ends → Type 0
+      As-long z = (length (z .0) ≡ length (xs .now)) × ((length (z .1 .0) ≡ length (store .now)) × (length (z .1 .1) ≡ length (words .now)))
+
+      abbrev pub Lasts : Ends → Fml
+      Lasts z = fsep (finally block.the-row (xs .name) (z .0)) (fsep (finally u64 (store .name) (z .1 .0)) (finally u64 (words .name) (z .1 .1)))
+
+      abbrev pub WentSo : Domain → Ends → SProp 𝓤
+      WentSo w′ z = guard 𝓤 (Goes-on w′ z × As-long z) (sem 𝓤 H A (Lasts z))
+
+      abbrev Done : Ends → Fml
+      Done z = fsep (fsep (finally block.the-row (xs .name) (z .0)) (feq ℕ (length (z .0)) (length (xs .now))))
+          (fsep ftrue (fsep ftrue (fsep ftrue (fsep ftrue
+          (fsep (fsep (finally u64 (store .name) (z .1 .0)) (feq ℕ (length (z .1 .0)) (length (store .now))))
+          (fsep (fsep (finally u64 (words .name) (z .1 .1)) (feq ℕ (length (z .1 .1)) (length (words .now)))) ftrue))))))
+
+      onwards-told : (w′ : Domain) (z : Ends) → ent 𝓤 (sep 𝓤 (sem 𝓤 H A (Done z)) (fact 𝓤 (Goes-on w′ z))) (ex 𝓤 (WentSo w′))
+      onwards-told w′ z = needs 𝓤 _ (sem 𝓤 H A (Done z)) (λ f.
+          qed W (‵ (Done z) ∷ []) ∵ fsplit ! $ fsplit ! $ move ! (1 ∷ []) $ feqL ! (λ l₁. move ! (1 ∷ []) $
+          fsplit ! $ drop ! $ fsplit ! $ drop ! $ fsplit ! $ drop ! $ fsplit ! $ drop ! $
+          fsplit ! $ fsplit ! $ move ! (1 ∷ []) $ feqL ! (λ l₂. move ! (1 ∷ []) $ fsplit ! $ fsplit ! $ move ! (1 ∷ []) $ feqL ! (λ l₃. move ! (1 ∷ []) $ drop ! $
+          move ! (1 ∷ 0 ∷ []) $ fjoin ! $ move ! (1 ∷ 0 ∷ []) $ fjoin ! $
+          show ! (WentSo w′) z $ check ! (f, (l₁, (l₂, l₃))) $ done !))))
+
+      pub onwards-gives : (v : Val) → ent 𝓤 (WritesOn .post to-onwards v)
+          (H .⇛ (ex 𝓤 (Given-back 𝓤 H A W onwards.ended (onwards.clauses 𝓤 H A mem″ run) to-onwards v (λ w′. ex 𝓤 (WentSo w′)))))
+      onwards-gives v = gives 𝓤 H A W onwards.ended (onwards.clauses 𝓤 H A mem″ run) to-onwards v (λ w′. ex 𝓤 (WentSo w′))
+          (λ w′. exE 𝓤 _ (λ ws. onwards-told w′ (ws .0, (ws .1 .1 .1 .1 .1 .0, ws .1 .1 .1 .1 .1 .1 .0))))
+
     -- ---- `put_domain`, with the domains xs lent for α
     abbrev pub PutDomain : Contract 𝓤
     PutDomain = tripleOf 𝓤 H A putting.signature (putting.spec 𝓤 H A mem″ run)
@@ -262,7 +358,7 @@ module _ {M : Type 1} (𝓤 : URA M) (H : Heap 𝓤) (A : Atoms 𝓤) (W : Given
           (H .⇛ (ex 𝓤 (Given-back 𝓤 H A W putting.ended (putting.clauses 𝓤 H A mem″ run) to-put v (λ r. ex 𝓤 Put))))
       put-gives v = gives 𝓤 H A W putting.ended (putting.clauses 𝓤 H A mem″ run) to-put v (λ r. ex 𝓤 Put) (λ r. exE 𝓤 _ (λ ws. put-told (ws .0)))
 
-    -- ---- `answered`, with the marks ms lent for α; the store, the words and the bytes are passed on for good
+    -- ---- `answered`, with the marks ms lent for α, and the store, the words and the bytes for κ₁, κ₂ and κ₃
     abbrev pub Answers : Contract 𝓤
     Answers = tripleOf 𝓤 H A answering.signature (answering.spec 𝓤 H A mem″ run)
 
@@ -321,10 +417,10 @@ module _ {M : Type 1} (𝓤 : URA M) (H : Heap 𝓤) (A : Atoms 𝓤) (W : Given
             owned ! view.the-row (Is view.the-row) (makes view.the-type view-laws.the-plain 𝓤 H A) x (xv ∷ []) is-x $ fjoin ! $ done !
 
         -- what the answer r and the last elements z are
-        abbrev pub Says : Outcome → Lists → Type 0
+        abbrev pub Says : Partial → Lists → Type 0
         Says r z = Answered x k (ms .now) (store .now) (words .now) (bytes .now) r (z .0) (z .1 .0) (z .1 .1)
 
-        abbrev pub Told : Outcome → Lists → SProp 𝓤
+        abbrev pub Told : Partial → Lists → SProp 𝓤
         Told r z = guard 𝓤 (Says r z × Lengths z) (sem 𝓤 H A (Finals z))
 
         abbrev Over : Lists → Fml
@@ -333,7 +429,7 @@ module _ {M : Type 1} (𝓤 : URA M) (H : Heap 𝓤) (A : Atoms 𝓤) (W : Given
             (fsep (fsep (finally u64 (words .name) (z .1 .0)) (feq ℕ (length (z .1 .0)) (length (words .now))))
             (fsep (fsep (finally u8 (bytes .name) (z .1 .1)) (feq ℕ (length (z .1 .1)) (length (bytes .now)))) ftrue)))))
 
-        answer-told : (r : Outcome) (z : Lists) → ent 𝓤 (sep 𝓤 (sem 𝓤 H A (Over z)) (fact 𝓤 (Says r z))) (ex 𝓤 (Told r))
+        answer-told : (r : Partial) (z : Lists) → ent 𝓤 (sep 𝓤 (sem 𝓤 H A (Over z)) (fact 𝓤 (Says r z))) (ex 𝓤 (Told r))
         answer-told r z = needs 𝓤 _ (sem 𝓤 H A (Over z)) (λ f.
             qed W (‵ (Over z) ∷ []) ∵ fsplit ! $ drop ! $ fsplit ! $ drop ! $ fsplit ! $ drop ! $
             fsplit ! $ fsplit ! $ move ! (1 ∷ []) $ feqL ! (λ l₁. move ! (1 ∷ []) $ fsplit ! $ fsplit ! $ move ! (1 ∷ []) $ feqL ! (λ l₂. move ! (1 ∷ []) $

@@ -43,47 +43,51 @@ use Rattle.model.specs.declared.table.Table.{Table}
 use Rattle.model.proofs.block.Block as block
 use Rattle.model.proofs.table.Domain as domain
 use Rattle.model.proofs.table.Domain.Laws as domain-laws
-use Rattle.tables.specs.Changing.{changedBlocks, changedDomains}
+use Rattle.placements.specs.declared.rest.Partial.{Partial}
+use Rattle.placements.proofs.rest.Partial as partial
+use Rattle.placements.proofs.rest.Partial.Laws as partial-laws
+use Rattle.tables.specs.Changing.{changedBlocks, withOwner}
 use Rattle.tables.specs.declared.change.Change.{Change}
-use Rattle.tables.specs.declared.change.Outcome.{Outcome}
 use Rattle.tables.proofs.change.Change as change
 use Rattle.tables.proofs.change.Change.Laws as change-laws
 use Rattle.tables.proofs.change.Outcome as outcome
 use Rattle.tables.proofs.change.Outcome.Laws as outcome-laws
 use Rattle.manager.specs.Answering.{changedPlace}
-use Rattle.manager.proofs.serving.serve_in.Code.Mir.{t-24, t-28, t-33}
+use Rattle.manager.proofs.serving.serve_in.Code.Mir.{t-24, t-29, t-38, t-42}
 use Rattle.manager.proofs.serving.serve_in.Proof.Calls.{write-name, place-name, put-name, ChangeBlocks, Lent, to-write, write-may, write-gives, ChangedPlace, to-place, place-may, Placed, place-gives, PutDomain, LentDomains, to-put, put-may, put-gives}
 use Rattle.manager.proofs.serving.serve_in.Proof.Frame.{En, holds, empty}
 use Rattle.manager.proofs.serving.serve_in.Proof.InMemory.{withRecords, withDomains, Lies, LieBlocks, LieDomains, blocksAt, domainsAt, blocks-field, domains-field, Rest, Beside, blocks-out, blocks-in, domains-out, domains-in}
 use Rattle.manager.proofs.serving.serve_in.Proof.Start.{Goes}
 
--- The change lies in the outcome here.
+-- The outcome lies in what a command hands back here, and the change in the outcome.
+outcome-field : fieldOf partial-laws.mir 0 ≡ known-at (outcome-laws.mir, get (fieldOf partial-laws.mir 0) tt .1)
+outcome-field = refl
+
 change-field : fieldOf outcome-laws.mir 1 ≡ known-at (change-laws.mir, get (fieldOf outcome-laws.mir 1) tt .1)
 change-field = refl
-
--- The new record lies in the change here.
-changed-field : fieldOf change-laws.mir 7 ≡ known-at (domain-laws.mir, get (fieldOf change-laws.mir 7) tt .1)
-changed-field = refl
 
 -- The domains after a change: past the last there is none to change.
 at-place : (none : Bool) (ds : List Domain) (n : ℕ) (r : Domain) → length ds ≡ 16 → set ds (cond none 16 n) r ≡ cond none ds (set ds n r)
 at-place true ds n r all = set-out ds 16 r (omega (arith, all))
 at-place false ds n r all = refl
 
-new-record : (c : Change) (ds : List Domain) → length ds ≡ 16 → set ds (changedPlace c) (c .changed) ≡ changedDomains c ds
-unfolding changedDomains
-new-record c ds all = at-place (eqb (c .domain) 0) ds (c .domain - 1) (c .changed) all
+new-record : (c : Change) (new : Domain) (ds : List Domain) → length ds ≡ 16 → set ds (changedPlace c) new ≡ withOwner (c .domain) new ds
+unfolding withOwner
+new-record c new ds all = at-place (eqb (c .domain) 0) ds (c .domain - 1) new all
 
 module _ {M : Type 1} (𝓤 : URA M) (H : Heap 𝓤) (A : Atoms 𝓤) (W : Given 𝓤 H A) (𝓣 : Tables 𝓤 H) (bs : List ℕ) (K : Val → SProp 𝓤)
     (mem″ : Memory → SProp 𝓤) (run : Routine → Fun 𝓤) (b o : ℕ) where
   module _ (known : Triple 𝓤 (𝓣 .C write-name) (ChangeBlocks 𝓤 H A W mem″ run)) (t : Table) (n : ℕ) (all : length (t .blocks) ≡ 256) (few : n ≤ 256)
-      (r : Outcome) (rv : Val) (is : Is outcome.the-row r (rv ∷ [])) where
+      (r : Partial) (rv : Val) (is : Is partial.the-row r (rv ∷ [])) where
     -- The records that are lent, as they come back, and that they have room.
     abbrev lent : List Block
     lent = take n (t .blocks)
 
+    abbrev c : Change
+    c = r .outcome .change
+
     abbrev back : List Block
-    back = changedBlocks (r .change) lent
+    back = changedBlocks c lent
 
     long : length lent ≡ n
     long = length-take-le n (t .blocks) (omega (arith, all, few))
@@ -97,64 +101,72 @@ module _ {M : Type 1} (𝓤 : URA M) (H : Heap 𝓤) (A : Atoms 𝓤) (W : Given
     abbrev lending : GName → RefT (List Block)
     lending γ = record { ptr = (b, first); name = γ; now = lent }
 
-    -- The outcome's machine value, and the change's.
+    -- The machine values of what the command hands back, of its outcome and of the change.
+    abbrev pv : Val
+    pv = val partial.the-type partial-laws.the-laws r
+
     abbrev ov : Val
-    ov = val outcome.the-type outcome-laws.the-laws r
+    ov = val outcome.the-type outcome-laws.the-laws (r .outcome)
 
     abbrev cv : Val
-    cv = val change.the-type change-laws.the-laws (r .change)
+    cv = val change.the-type change-laws.the-laws c
 
-    is-c : Is change.the-row (r .change) (cv ∷ [])
-    is-c = owed outcome.the-type outcome-laws.the-laws r (rv ∷ []) is .1 .0
+    is-o : Is outcome.the-row (r .outcome) (ov ∷ [])
+    is-o = owed partial.the-type partial-laws.the-laws r (rv ∷ []) is .0
+
+    is-c : Is change.the-row c (cv ∷ [])
+    is-c = owed outcome.the-type outcome-laws.the-laws (r .outcome) (ov ∷ []) is-o .1 .0
 
     pub writes-blocks : {G : Type 0} {Γ : List (Item 𝓤)} → G
-        → (Is change.the-row (r .change) (cv ∷ [])
-        → Goes 𝓤 H A W 𝓣 bs K G (‵ (Lies 𝓤 H A W b o (withRecords (back ++ rest n (t .blocks)) t)) ∷ holds 𝓤 H bs 1 (vptr b o) ∷ holds 𝓤 H bs 13 ov ∷ empty 𝓤 H bs 8
-        ∷ holds 𝓤 H bs 14 cv ∷ empty 𝓤 H bs 33 ∷ empty 𝓤 H bs 34 ∷ empty 𝓤 H bs 32 ∷ Γ) t-28)
+        → (Is outcome.the-row (r .outcome) (ov ∷ []) → Is change.the-row c (cv ∷ []) → length back ≡ n
+        → Goes 𝓤 H A W 𝓣 bs K G (‵ (Lies 𝓤 H A W b o (withRecords (back ++ rest n (t .blocks)) t)) ∷ holds 𝓤 H bs 1 (vptr b o) ∷ holds 𝓤 H bs 13 pv
+        ∷ holds 𝓤 H bs 8 (vint w64 n) ∷ holds 𝓤 H bs 14 ov ∷ holds 𝓤 H bs 15 cv ∷ empty 𝓤 H bs 36 ∷ empty 𝓤 H bs 37 ∷ empty 𝓤 H bs 35 ∷ Γ) t-29)
         → Goes 𝓤 H A W 𝓣 bs K G (‵ (Lies 𝓤 H A W b o t) ∷ holds 𝓤 H bs 1 (vptr b o) ∷ holds 𝓤 H bs 13 rv ∷ holds 𝓤 H bs 8 (vint w64 n) ∷ empty 𝓤 H bs 14
-        ∷ empty 𝓤 H bs 33 ∷ empty 𝓤 H bs 34 ∷ empty 𝓤 H bs 32 ∷ Γ) t-24
+        ∷ empty 𝓤 H bs 15 ∷ empty 𝓤 H bs 36 ∷ empty 𝓤 H bs 37 ∷ empty 𝓤 H bs 35 ∷ Γ) t-24
     writes-blocks {Γ = Γ} g goes = record {
       prf =
           qed W (‵ (Lies 𝓤 H A W b o t) ∷ holds 𝓤 H bs 1 (vptr b o) ∷ holds 𝓤 H bs 13 rv ∷ holds 𝓤 H bs 8 (vint w64 n) ∷ empty 𝓤 H bs 14
-          ∷ empty 𝓤 H bs 33 ∷ empty 𝓤 H bs 34 ∷ empty 𝓤 H bs 32 ∷ Γ) ∵
+          ∷ empty 𝓤 H bs 15 ∷ empty 𝓤 H bs 36 ∷ empty 𝓤 H bs 37 ∷ empty 𝓤 H bs 35 ∷ Γ) ∵
           exec ! (𝓣 .C) (𝓣 .Λ) (En 𝓤 H bs) t-24 (atRet (En 𝓤 H bs) K) $
-          -- the change, and the slice
-          rewrite ! 2 (λ (u : Val). holds 𝓤 H bs 13 u) (ap only (tells outcome.the-type outcome-laws.the-laws r (rv ∷ []) is)) refl $
-          assigns ! (of-opd ! (load ! (from ! (fld ! change-field (stop !))) (look-in ! 2 (sub ! 1 change-field (whole !))))) (from ! (stop !))
-          (init ! 4 refl (lawful change.the-type change-laws.the-laws 𝓤 H A W .typed (r .change) (cv ∷ []) is-c .0)) $
-          assigns ! (addr ! (from ! (hop ! (look ! 1 refl) (fld ! blocks-field (stop !))))) (from ! (stop !)) (init ! 5 refl (tt, tt)) $
-          assigns ! (agg ! (and-then ! (load ! (from ! (stop !)) (look ! 5 refl)) (and-then ! (load ! (from ! (stop !)) (look ! 3 refl)) (no-more !))))
-          (from ! (stop !)) (init ! 6 refl (tt, (tt, (record { fits = omega (arith, few) }, tt)))) $
+          -- the outcome, the change, and the slice
+          rewrite ! 2 (λ (u : Val). holds 𝓤 H bs 13 u) (ap only (tells partial.the-type partial-laws.the-laws r (rv ∷ []) is)) refl $
+          assigns ! (of-opd ! (load ! (from ! (fld ! outcome-field (stop !))) (look-in ! 2 (sub ! 0 outcome-field (whole !))))) (from ! (stop !))
+          (init ! 4 refl (lawful outcome.the-type outcome-laws.the-laws 𝓤 H A W .typed (r .outcome) (ov ∷ []) is-o .0)) $
+          assigns ! (of-opd ! (load ! (from ! (fld ! change-field (stop !))) (look-in ! 4 (sub ! 1 change-field (whole !))))) (from ! (stop !))
+          (init ! 5 refl (lawful change.the-type change-laws.the-laws 𝓤 H A W .typed c (cv ∷ []) is-c .0)) $
+          assigns ! (addr ! (from ! (hop ! (look ! 1 refl) (fld ! blocks-field (stop !))))) (from ! (stop !)) (init ! 6 refl (tt, tt)) $
+          assigns ! (agg ! (and-then ! (load ! (from ! (stop !)) (look ! 6 refl)) (and-then ! (load ! (from ! (stop !)) (look ! 3 refl)) (no-more !))))
+          (from ! (stop !)) (init ! 7 refl (tt, (tt, (record { fits = omega (arith, few) }, tt)))) $
           -- the records are lent
           use1 W (‵ (LieBlocks 𝓤 H A W fullShare b o lent) ⊛ raw (Rest 𝓤 H A W fullShare b o t n back)) (blocks-out 𝓤 H A W fullShare b o t n back) $ split ! $ lft-new ! tt (λ α. move ! (1 ∷ []) $
-          use1 W (later (some (λ (γ : GName). ‵ (Lent 𝓤 H A W mem″ run α (lending γ) (r .change) cv) ⊛ ‵ (flent (α ∷ []) (Held block.the-row (length lent) b first γ)))))
+          use1 W (later (some (λ (γ : GName). ‵ (Lent 𝓤 H A W mem″ run α (lending γ) c cv) ⊛ ‵ (flent (α ∷ []) (Held block.the-row (length lent) b first γ)))))
           (lends-slice 𝓤 H A W block.the-row (named 0) (α ∷ []) lent b first fitting) $ await ! tt $ pick ! (λ γ. split ! $
           -- the call
-          move ! (2 ∷ 0 ∷ []) $ use2 W (raw (ChangeBlocks 𝓤 H A W mem″ run .pre (to-write 𝓤 H A W mem″ run α (lending γ) (r .change) cv)))
-          (write-may 𝓤 H A W mem″ run α (lending γ) (r .change) cv is-c) $
-          rewrite ! 8 (λ (m : ℕ). holds 𝓤 H bs 34 (sliceVal (b, first) m)) (sym long) refl $
-          calls-at ! (fmOf 𝓤 H (W .laws) 𝓣) (ChangeBlocks 𝓤 H A W mem″ run) known (to-write 𝓤 H A W mem″ run α (lending γ) (r .change) cv)
-          (and-then ! (load ! (from ! (stop !)) (look ! 8 refl)) (and-then ! (load ! (from ! (stop !)) (look ! 6 refl)) (no-more !))) (λ v.
+          move ! (2 ∷ 0 ∷ []) $ use2 W (raw (ChangeBlocks 𝓤 H A W mem″ run .pre (to-write 𝓤 H A W mem″ run α (lending γ) c cv)))
+          (write-may 𝓤 H A W mem″ run α (lending γ) c cv is-c) $
+          rewrite ! 9 (λ (m : ℕ). holds 𝓤 H bs 37 (sliceVal (b, first) m)) (sym long) refl $
+          calls-at ! (fmOf 𝓤 H (W .laws) 𝓣) (ChangeBlocks 𝓤 H A W mem″ run) known (to-write 𝓤 H A W mem″ run α (lending γ) c cv)
+          (and-then ! (load ! (from ! (stop !)) (look ! 9 refl)) (and-then ! (load ! (from ! (stop !)) (look ! 7 refl)) (no-more !))) (λ v.
           use1 W (later (some (λ (e : Unit {0}). given (Is unit e (v ∷ [])) ((‵ (flft (α ∷ []) fullShare) ⊛ ‵ ftrue)
           ⊛ some (λ (zs : List Block). given ((zs ≡ back) × (length zs ≡ length lent)) (‵ (finally block.the-row γ zs)))))))
-          (write-gives 𝓤 H A W mem″ run α (lending γ) (r .change) cv v) $ await ! tt $ pick ! (λ e. learn ! (λ is-e. split ! $ move ! (1 ∷ []) $
+          (write-gives 𝓤 H A W mem″ run α (lending γ) c cv v) $ await ! tt $ pick ! (λ e. learn ! (λ is-e. split ! $ move ! (1 ∷ []) $
           pick ! (λ zs. learn ! (λ f. move ! (1 ∷ []) $ split ! $
-          land ! (from ! (stop !)) (init ! 11 refl (nothing-lawful 𝓤 H A W .typed e (v ∷ []) is-e .0)) $
-          forget ! 7 refl $ forget ! 9 refl $ forget ! 10 refl $ forget ! 11 refl $
+          land ! (from ! (stop !)) (init ! 12 refl (nothing-lawful 𝓤 H A W .typed e (v ∷ []) is-e .0)) $
+          forget ! 10 refl $ forget ! 11 refl $ forget ! 12 refl $
           -- the records are put back
           lft-end ! tt $ move ! (0 ∷ 3 ∷ 2 ∷ []) $
           use3 W (later (‵ (Arr (mem block.the-row) (length lent) .lies zs b first))) (slice-back 𝓤 H A W block.the-row (α ∷ []) γ zs (length lent) b first) $
           await ! tt $ fsplit ! $ drop ! $ rewrite ! 0 (λ (ys : List Block). ‵ (LieBlocks 𝓤 H A W fullShare b o ys)) (f .0) refl $ move ! (0 ∷ 2 ∷ []) $
           use2 W (‵ (Lies 𝓤 H A W b o (withRecords (back ++ rest n (t .blocks)) t))) (blocks-in 𝓤 H A W fullShare b o t n back (ap length (sym (f .0)) ∙ f .1) all) $
-          move ! (1 ∷ []) $ drop ! $ by ! (goes is-c .prf))))))));
+          move ! (1 ∷ []) $ drop ! $ by ! (goes is-o is-c (ap length (sym (f .0)) ∙ f .1 ∙ long) .prf))))))));
     }
 
   -- The domain's place is computed, and all domains are lent for its new record.
   module _ (known : Triple 𝓤 (𝓣 .C place-name) (ChangedPlace 𝓤 H A W mem″ run)) (known-put : Triple 𝓤 (𝓣 .C put-name) (PutDomain 𝓤 H A W mem″ run))
-      (t : Table) (sixteen : length (t .domains) ≡ 16) (c : Change) (cv : Val) (is-c : Is change.the-row c (cv ∷ [])) where
+      (t : Table) (sixteen : length (t .domains) ≡ 16) (c : Change) (new : Domain) (cv dv : Val) (is-c : Is change.the-row c (cv ∷ [])) (is-d : Is domain.the-row new (dv ∷ [])) where
     -- The domains with the new record at i, and that they have room.
     abbrev with-new : ℕ → List Domain
-    with-new i = set (t .domains) i (c .changed)
+    with-new i = set (t .domains) i new
 
     domains-fit : Room domain.the-row (length (t .domains))
     domains-fit = (omega (arith, sixteen), omega (arith, sixteen))
@@ -165,23 +177,16 @@ module _ {M : Type 1} (𝓤 : URA M) (H : Heap 𝓤) (A : Atoms 𝓤) (W : Given
     abbrev lending-domains : GName → RefT (List Domain)
     lending-domains γ = record { ptr = (b, second); name = γ; now = t .domains }
 
-    -- The machine value of the new record.
-    abbrev dv : Val
-    dv = val domain.the-type domain-laws.the-laws (c .changed)
-
-    is-d : Is domain.the-row (c .changed) (dv ∷ [])
-    is-d = owed change.the-type change-laws.the-laws c (cv ∷ []) is-c .1 .1 .1 .1 .1 .1 .1 .0
-
     pub writes-domains : {G : Type 0} {Γ : List (Item 𝓤)} → G
-        → Goes 𝓤 H A W 𝓣 bs K G (‵ (Lies 𝓤 H A W b o (withDomains (changedDomains c (t .domains)) t)) ∷ holds 𝓤 H bs 1 (vptr b o) ∷ empty 𝓤 H bs 14 ∷ empty 𝓤 H bs 15
-        ∷ empty 𝓤 H bs 16 ∷ empty 𝓤 H bs 35 ∷ empty 𝓤 H bs 36 ∷ empty 𝓤 H bs 32 ∷ Γ) t-33
-        → Goes 𝓤 H A W 𝓣 bs K G (‵ (Lies 𝓤 H A W b o t) ∷ holds 𝓤 H bs 1 (vptr b o) ∷ holds 𝓤 H bs 14 cv ∷ empty 𝓤 H bs 15 ∷ empty 𝓤 H bs 16 ∷ empty 𝓤 H bs 35
-        ∷ empty 𝓤 H bs 36 ∷ empty 𝓤 H bs 32 ∷ Γ) t-28
+        → Goes 𝓤 H A W 𝓣 bs K G (‵ (Lies 𝓤 H A W b o (withDomains (withOwner (c .domain) new (t .domains)) t)) ∷ holds 𝓤 H bs 1 (vptr b o) ∷ empty 𝓤 H bs 15 ∷ empty 𝓤 H bs 19
+        ∷ empty 𝓤 H bs 18 ∷ empty 𝓤 H bs 44 ∷ empty 𝓤 H bs 45 ∷ empty 𝓤 H bs 35 ∷ Γ) t-42
+        → Goes 𝓤 H A W 𝓣 bs K G (‵ (Lies 𝓤 H A W b o t) ∷ holds 𝓤 H bs 1 (vptr b o) ∷ holds 𝓤 H bs 15 cv ∷ empty 𝓤 H bs 19 ∷ holds 𝓤 H bs 18 dv ∷ empty 𝓤 H bs 44
+        ∷ empty 𝓤 H bs 45 ∷ empty 𝓤 H bs 35 ∷ Γ) t-38
     writes-domains {Γ = Γ} g goes = record {
       prf =
-          qed W (‵ (Lies 𝓤 H A W b o t) ∷ holds 𝓤 H bs 1 (vptr b o) ∷ holds 𝓤 H bs 14 cv ∷ empty 𝓤 H bs 15 ∷ empty 𝓤 H bs 16 ∷ empty 𝓤 H bs 35
-          ∷ empty 𝓤 H bs 36 ∷ empty 𝓤 H bs 32 ∷ Γ) ∵
-          exec ! (𝓣 .C) (𝓣 .Λ) (En 𝓤 H bs) t-28 (atRet (En 𝓤 H bs) K) $
+          qed W (‵ (Lies 𝓤 H A W b o t) ∷ holds 𝓤 H bs 1 (vptr b o) ∷ holds 𝓤 H bs 15 cv ∷ empty 𝓤 H bs 19 ∷ holds 𝓤 H bs 18 dv ∷ empty 𝓤 H bs 44
+          ∷ empty 𝓤 H bs 45 ∷ empty 𝓤 H bs 35 ∷ Γ) ∵
+          exec ! (𝓣 .C) (𝓣 .Λ) (En 𝓤 H bs) t-38 (atRet (En 𝓤 H bs) K) $
           -- the place
           use0 W (raw (ChangedPlace 𝓤 H A W mem″ run .pre (to-place 𝓤 H A W mem″ run c cv))) (place-may 𝓤 H A W mem″ run c cv is-c) $
           calls-at ! (fmOf 𝓤 H (W .laws) 𝓣) (ChangedPlace 𝓤 H A W mem″ run) known (to-place 𝓤 H A W mem″ run c cv)
@@ -189,29 +194,26 @@ module _ {M : Type 1} (𝓤 : URA M) (H : Heap 𝓤) (A : Atoms 𝓤) (W : Given
           use1 W (later (some (λ (i : ℕ). given (Is u64 i (nv ∷ [])) (‵ ftrue ⊛ raw (Placed 𝓤 H A W mem″ run c cv i))))) (place-gives 𝓤 H A W mem″ run c cv nv) $
           await ! tt $ pick ! (λ i. learn ! (λ is-i. split ! $ drop ! $ heard ! (i ≡ changedPlace c) (λ at.
           land ! (from ! (stop !)) (init ! 3 refl (uint-lawful 𝓤 H A W w64 .typed i (nv ∷ []) is-i .0)) $
-          -- the new record, and the slice
-          rewrite ! 2 (λ (u : Val). holds 𝓤 H bs 14 u) (ap only (tells change.the-type change-laws.the-laws c (cv ∷ []) is-c)) refl $
-          assigns ! (of-opd ! (load ! (from ! (fld ! changed-field (stop !))) (look-in ! 2 (sub ! 7 changed-field (whole !))))) (from ! (stop !))
-          (init ! 4 refl (lawful domain.the-type domain-laws.the-laws 𝓤 H A W .typed (c .changed) (dv ∷ []) is-d .0)) $
+          -- the slice
           assigns ! (addr ! (from ! (hop ! (look ! 1 refl) (fld ! domains-field (stop !))))) (from ! (stop !)) (init ! 5 refl (tt, tt)) $
           assigns ! (agg ! (and-then ! (load ! (from ! (stop !)) (look ! 5 refl)) (and-then ! (lit ! tt) (no-more !))))
           (from ! (stop !)) (init ! 6 refl (tt, (tt, (record { fits = lit< tt }, tt)))) $
           -- the domains are lent
           use1 W (‵ (LieDomains 𝓤 H A W fullShare b o (t .domains)) ⊛ raw (Beside 𝓤 H A W fullShare b o t (with-new i))) (domains-out 𝓤 H A W fullShare b o t (with-new i)) $
           split ! $ lft-new ! tt (λ α. move ! (1 ∷ []) $
-          use1 W (later (some (λ (γ : GName). ‵ (LentDomains 𝓤 H A W mem″ run α (lending-domains γ) i (c .changed) nv dv)
+          use1 W (later (some (λ (γ : GName). ‵ (LentDomains 𝓤 H A W mem″ run α (lending-domains γ) i new nv dv)
           ⊛ ‵ (flent (α ∷ []) (Held domain.the-row (length (t .domains)) b second γ)))))
           (lends-slice 𝓤 H A W domain.the-row (named 0) (α ∷ []) (t .domains) b second domains-fit) $ await ! tt $ pick ! (λ γ. split ! $
           -- the call
-          move ! (2 ∷ 0 ∷ []) $ use2 W (raw (PutDomain 𝓤 H A W mem″ run .pre (to-put 𝓤 H A W mem″ run α (lending-domains γ) i (c .changed) nv dv)))
-          (put-may 𝓤 H A W mem″ run α (lending-domains γ) i (c .changed) nv dv is-i is-d) $
-          rewrite ! 8 (λ (m : ℕ). holds 𝓤 H bs 36 (sliceVal (b, second) m)) (sym sixteen) refl $
-          calls-at ! (fmOf 𝓤 H (W .laws) 𝓣) (PutDomain 𝓤 H A W mem″ run) known-put (to-put 𝓤 H A W mem″ run α (lending-domains γ) i (c .changed) nv dv)
+          move ! (2 ∷ 0 ∷ []) $ use2 W (raw (PutDomain 𝓤 H A W mem″ run .pre (to-put 𝓤 H A W mem″ run α (lending-domains γ) i new nv dv)))
+          (put-may 𝓤 H A W mem″ run α (lending-domains γ) i new nv dv is-i is-d) $
+          rewrite ! 8 (λ (m : ℕ). holds 𝓤 H bs 45 (sliceVal (b, second) m)) (sym sixteen) refl $
+          calls-at ! (fmOf 𝓤 H (W .laws) 𝓣) (PutDomain 𝓤 H A W mem″ run) known-put (to-put 𝓤 H A W mem″ run α (lending-domains γ) i new nv dv)
           (and-then ! (load ! (from ! (stop !)) (look ! 8 refl)) (and-then ! (load ! (from ! (stop !)) (look ! 5 refl))
           (and-then ! (load ! (from ! (stop !)) (look ! 6 refl)) (no-more !)))) (λ v.
           use1 W (later (some (λ (e : Unit {0}). given (Is unit e (v ∷ [])) ((‵ (flft (α ∷ []) fullShare) ⊛ ‵ ftrue)
           ⊛ some (λ (zs : List Domain). given ((zs ≡ with-new i) × (length zs ≡ length (t .domains))) (‵ (finally domain.the-row γ zs)))))))
-          (put-gives 𝓤 H A W mem″ run α (lending-domains γ) i (c .changed) nv dv v) $ await ! tt $ pick ! (λ e. learn ! (λ is-e. split ! $ move ! (1 ∷ []) $
+          (put-gives 𝓤 H A W mem″ run α (lending-domains γ) i new nv dv v) $ await ! tt $ pick ! (λ e. learn ! (λ is-e. split ! $ move ! (1 ∷ []) $
           pick ! (λ zs. learn ! (λ f. move ! (1 ∷ []) $ split ! $
           land ! (from ! (stop !)) (init ! 11 refl (nothing-lawful 𝓤 H A W .typed e (v ∷ []) is-e .0)) $
           forget ! 6 refl $ forget ! 7 refl $ forget ! 8 refl $ forget ! 9 refl $ forget ! 10 refl $ forget ! 11 refl $
@@ -221,6 +223,6 @@ module _ {M : Type 1} (𝓤 : URA M) (H : Heap 𝓤) (A : Atoms 𝓤) (W : Given
           (slice-back 𝓤 H A W domain.the-row (α ∷ []) γ zs (length (t .domains)) b second) $
           await ! tt $ fsplit ! $ drop ! $ rewrite ! 0 (λ (ys : List Domain). ‵ (LieDomains 𝓤 H A W fullShare b o ys)) (f .0) refl $ move ! (0 ∷ 2 ∷ []) $
           use2 W (‵ (Lies 𝓤 H A W b o (withDomains (with-new i) t))) (domains-in 𝓤 H A W fullShare b o t (with-new i) (ap length (sym (f .0)) ∙ f .1 ∙ sixteen)) $
-          rewrite ! 0 (λ (ys : List Domain). ‵ (Lies 𝓤 H A W b o (withDomains ys t))) (ap with-new at ∙ new-record c (t .domains) sixteen) refl $
+          rewrite ! 0 (λ (ys : List Domain). ‵ (Lies 𝓤 H A W b o (withDomains ys t))) (ap with-new at ∙ new-record c new (t .domains) sixteen) refl $
           move ! (1 ∷ []) $ drop ! $ by ! (goes .prf))))))))))));
     }

@@ -21,6 +21,8 @@ use Rattle.model.proofs.command.Command.Laws as command
 use Rattle.model.proofs.table.Domain as domain
 use Rattle.model.proofs.table.Domain.Laws as domain-laws
 use Rattle.model.proofs.table.Table as table
+use Rattle.placements.proofs.rest.Partial.Laws as partial
+use Rattle.placements.proofs.rest.Rest.Laws as rest
 use Rattle.tables.proofs.change.Change.Laws as change
 use Rattle.tables.proofs.change.Outcome.Laws as outcome
 use Rattle.survey.proofs.scan.Ranges.Laws as ranges
@@ -62,10 +64,13 @@ localTypes = answer.mir
     ∷ ranges.mir
     ∷ markArray
     ∷ view.mir
+    ∷ partial.mir
     ∷ outcome.mir
     ∷ change.mir
-    ∷ word
+    ∷ rest.mir
     ∷ domain-laws.mir
+    ∷ domain-laws.mir
+    ∷ word
     ∷ markArray
     ∷ tyRef erased imm blockArray
     ∷ sliceTy (tyRef erased imm blockType)
@@ -84,6 +89,12 @@ localTypes = answer.mir
     ∷ tyUnit
     ∷ tyRef erased mut blockArray
     ∷ sliceTy (tyRef erased mut blockType)
+    ∷ tyRef erased mut blockArray
+    ∷ sliceTy (tyRef erased mut blockType)
+    ∷ tyRef erased mut word
+    ∷ sliceTy (tyRef erased mut word)
+    ∷ tyRef erased mut word
+    ∷ sliceTy (tyRef erased mut word)
     ∷ tyRef erased mut domainArray
     ∷ sliceTy (tyRef erased mut domainType)
     ∷ []

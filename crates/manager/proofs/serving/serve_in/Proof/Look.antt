@@ -114,14 +114,14 @@ module _ {M : Type 1} (𝓤 : URA M) (H : Heap 𝓤) (A : Atoms 𝓤) (W : Given
 
   pub looks : {G : Type 0} {Γ : List (Item 𝓤)} → G
       → ((r : View) (zs : List ℕ) (rv zv : Val) → Is view.the-row r (rv ∷ []) → Is marks zs (zv ∷ []) → Looked (t .config) s p lent (t .domains) ms r zs
-      → Goes 𝓤 H A W 𝓣 bs K G (‵ (Lies 𝓤 H A W b o t) ∷ holds 𝓤 H bs 1 (vptr b o) ∷ holds 𝓤 H bs 8 (vint w64 n) ∷ empty 𝓤 H bs 6 ∷ empty 𝓤 H bs 9 ∷ empty 𝓤 H bs 10
-      ∷ holds 𝓤 H bs 11 zv ∷ empty 𝓤 H bs 18 ∷ empty 𝓤 H bs 19 ∷ empty 𝓤 H bs 20 ∷ empty 𝓤 H bs 21 ∷ empty 𝓤 H bs 22 ∷ empty 𝓤 H bs 23 ∷ holds 𝓤 H bs 12 rv ∷ Γ) t-15)
+      → Goes 𝓤 H A W 𝓣 bs K G (‵ (Lies 𝓤 H A W b o t) ∷ holds 𝓤 H bs 1 (vptr b o) ∷ holds 𝓤 H bs 8 (vint w64 n) ∷ holds 𝓤 H bs 6 cv ∷ empty 𝓤 H bs 9 ∷ empty 𝓤 H bs 10
+      ∷ holds 𝓤 H bs 11 zv ∷ empty 𝓤 H bs 21 ∷ empty 𝓤 H bs 22 ∷ empty 𝓤 H bs 23 ∷ empty 𝓤 H bs 24 ∷ empty 𝓤 H bs 25 ∷ empty 𝓤 H bs 26 ∷ holds 𝓤 H bs 12 rv ∷ Γ) t-15)
       → Goes 𝓤 H A W 𝓣 bs K G (‵ (Lies 𝓤 H A W b o t) ∷ holds 𝓤 H bs 1 (vptr b o) ∷ holds 𝓤 H bs 8 (vint w64 n) ∷ holds 𝓤 H bs 6 cv ∷ holds 𝓤 H bs 9 sv ∷ holds 𝓤 H bs 10 pv
-      ∷ holds 𝓤 H bs 11 mv ∷ empty 𝓤 H bs 18 ∷ empty 𝓤 H bs 19 ∷ empty 𝓤 H bs 20 ∷ empty 𝓤 H bs 21 ∷ empty 𝓤 H bs 22 ∷ empty 𝓤 H bs 23 ∷ empty 𝓤 H bs 12 ∷ Γ) t-8
+      ∷ holds 𝓤 H bs 11 mv ∷ empty 𝓤 H bs 21 ∷ empty 𝓤 H bs 22 ∷ empty 𝓤 H bs 23 ∷ empty 𝓤 H bs 24 ∷ empty 𝓤 H bs 25 ∷ empty 𝓤 H bs 26 ∷ empty 𝓤 H bs 12 ∷ Γ) t-8
   looks {Γ = Γ} g goes = record {
     prf =
         qed W (‵ (Lies 𝓤 H A W b o t) ∷ holds 𝓤 H bs 1 (vptr b o) ∷ holds 𝓤 H bs 8 (vint w64 n) ∷ holds 𝓤 H bs 6 cv ∷ holds 𝓤 H bs 9 sv ∷ holds 𝓤 H bs 10 pv
-        ∷ holds 𝓤 H bs 11 mv ∷ empty 𝓤 H bs 18 ∷ empty 𝓤 H bs 19 ∷ empty 𝓤 H bs 20 ∷ empty 𝓤 H bs 21 ∷ empty 𝓤 H bs 22 ∷ empty 𝓤 H bs 23 ∷ empty 𝓤 H bs 12 ∷ Γ) ∵
+        ∷ holds 𝓤 H bs 11 mv ∷ empty 𝓤 H bs 21 ∷ empty 𝓤 H bs 22 ∷ empty 𝓤 H bs 23 ∷ empty 𝓤 H bs 24 ∷ empty 𝓤 H bs 25 ∷ empty 𝓤 H bs 26 ∷ empty 𝓤 H bs 12 ∷ Γ) ∵
         exec ! (𝓣 .C) (𝓣 .Λ) (En 𝓤 H bs) t-8 (atRet (En 𝓤 H bs) K) $
         -- the three slices
         assigns ! (addr ! (from ! (hop ! (look ! 1 refl) (fld ! blocks-field (stop !))))) (from ! (stop !)) (init ! 7 refl (tt, tt)) $
@@ -155,9 +155,9 @@ module _ {M : Type 1} (𝓤 : URA M) (H : Heap 𝓤) (A : Atoms 𝓤) (W : Given
         use3 W (raw (LooksAt 𝓤 H A W mem″ run .pre (to α β δ γ γ′ γ″)))
         (look-may 𝓤 H A W mem″ run α β δ (seen γ) (seeing γ′) (t .config) s p (marking γ″) cv sv pv is-c is-s is-p (omega (arith, long, few)) sixteen each
         (omega (arith, long, free-few)) (omega (arith, long, list-few))) $
-        rewrite ! 12 (λ (m : ℕ). holds 𝓤 H bs 19 (sliceVal (b, first) m)) (sym long) refl $
-        rewrite ! 14 (λ (m : ℕ). holds 𝓤 H bs 21 (sliceVal (b, second) m)) (sym sixteen) refl $
-        rewrite ! 16 (λ (m : ℕ). holds 𝓤 H bs 23 (sliceVal (l, 0) m)) (sym each) refl $
+        rewrite ! 12 (λ (m : ℕ). holds 𝓤 H bs 22 (sliceVal (b, first) m)) (sym long) refl $
+        rewrite ! 14 (λ (m : ℕ). holds 𝓤 H bs 24 (sliceVal (b, second) m)) (sym sixteen) refl $
+        rewrite ! 16 (λ (m : ℕ). holds 𝓤 H bs 26 (sliceVal (l, 0) m)) (sym each) refl $
         calls-at ! (fmOf 𝓤 H (W .laws) 𝓣) (LooksAt 𝓤 H A W mem″ run) known (to α β δ γ γ′ γ″)
         (and-then ! (load ! (from ! (stop !)) (look ! 12 refl)) (and-then ! (load ! (from ! (stop !)) (look ! 14 refl)) (and-then ! (load ! (from ! (stop !)) (look ! 8 refl))
         (and-then ! (load ! (from ! (stop !)) (look ! 9 refl)) (and-then ! (load ! (from ! (stop !)) (look ! 10 refl)) (and-then ! (load ! (from ! (stop !)) (look ! 16 refl))
@@ -168,7 +168,7 @@ module _ {M : Type 1} (𝓤 : URA M) (H : Heap 𝓤) (A : Atoms 𝓤) (W : Given
         (look-gives 𝓤 H A W mem″ run α β δ (seen γ) (seeing γ′) (t .config) s p (marking γ″) cv sv pv v) $ await ! tt $ pick ! (λ r. learn ! (λ is-r. split ! $ move ! (1 ∷ []) $
         pick ! (λ zs. learn ! (λ f. move ! (1 ∷ []) $ split ! $ move ! (1 ∷ []) $ split ! $ move ! (1 ∷ []) $ split ! $
         land ! (from ! (stop !)) (init ! 21 refl (lawful view.the-type view-laws.the-laws 𝓤 H A W .typed r (v ∷ []) is-r .0)) $
-        forget ! 12 refl $ forget ! 13 refl $ forget ! 14 refl $ forget ! 15 refl $ forget ! 16 refl $ forget ! 17 refl $ forget ! 18 refl $ forget ! 19 refl $ forget ! 20 refl $
+        forget ! 13 refl $ forget ! 14 refl $ forget ! 15 refl $ forget ! 16 refl $ forget ! 17 refl $ forget ! 18 refl $ forget ! 19 refl $ forget ! 20 refl $
         move ! (1 ∷ []) $ drop ! $
         -- the records are put back, ..
         move ! (2 ∷ []) $ lft-end ! tt $ move ! (0 ∷ 6 ∷ []) $ lent-back ! tt $ fsplit ! $ drop ! $

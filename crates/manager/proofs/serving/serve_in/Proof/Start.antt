@@ -127,11 +127,11 @@ module _ {M : Type 1} (𝓤 : URA M) (H : Heap 𝓤) (A : Atoms 𝓤) (W : Given
 
     -- `no_marks` is called, and the marks are copied to where they will be lent from.
     pub clears : {G : Type 0} {Γ : List (Item 𝓤)} → G → Triple 𝓤 (𝓣 .C clear-name) (NoMarks 𝓤 H A W mem″ run)
-        → ((mv : Val) → Is marks noMarks (mv ∷ []) → Goes G (empty 𝓤 H bs 17 ∷ holds 𝓤 H bs 11 mv ∷ Γ) t-8)
-        → Goes G (empty 𝓤 H bs 17 ∷ empty 𝓤 H bs 11 ∷ Γ) t-6
+        → ((mv : Val) → Is marks noMarks (mv ∷ []) → Goes G (empty 𝓤 H bs 20 ∷ holds 𝓤 H bs 11 mv ∷ Γ) t-8)
+        → Goes G (empty 𝓤 H bs 20 ∷ empty 𝓤 H bs 11 ∷ Γ) t-6
     clears {Γ = Γ} g known goes = record {
       prf =
-          qed W (empty 𝓤 H bs 17 ∷ empty 𝓤 H bs 11 ∷ Γ) ∵ exec ! (𝓣 .C) (𝓣 .Λ) (En 𝓤 H bs) t-6 (atRet (En 𝓤 H bs) K) $
+          qed W (empty 𝓤 H bs 20 ∷ empty 𝓤 H bs 11 ∷ Γ) ∵ exec ! (𝓣 .C) (𝓣 .Λ) (En 𝓤 H bs) t-6 (atRet (En 𝓤 H bs) K) $
           use0 W (raw (NoMarks 𝓤 H A W mem″ run .pre (to-clear 𝓤 H A W mem″ run))) (clear-may 𝓤 H A W mem″ run) $
           calls-at ! (fmOf 𝓤 H (W .laws) 𝓣) (NoMarks 𝓤 H A W mem″ run) known (to-clear 𝓤 H A W mem″ run) (no-more !) (λ v.
           use1 W (later (some (λ (r : List ℕ). given (Is marks r (v ∷ [])) (‵ ftrue ⊛ raw (Clear 𝓤 H A W mem″ run r))))) (clear-gives 𝓤 H A W mem″ run v) $
