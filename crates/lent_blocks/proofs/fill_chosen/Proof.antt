@@ -1,7 +1,7 @@
 use mathlib.Core.List.{List}
 use mathlib.Core.Path.{_≡_, sym, ap, subst, _∙_}
 use native.Mathlib.Omega.{arith}
-use lib.ListN.{length, set}
+use lib.ListN.{set}
 use lib.Seq.{set-out}
 use borrow.Author.Needs.{needs}
 use Rattle.model.specs.declared.block.Block.{Block}
@@ -10,10 +10,6 @@ use Rattle.placements.specs.declared.rest.Rest.{Rest}
 use Rattle.lent_blocks.proofs.Opening.{next-none, next-opened}
 use Rattle.lent_blocks.proofs.fill_chosen.Statement.{statement}
 use Rattle.lent_blocks.proofs.fill_chosen.Tie as tie
-use Rattle.lent_blocks.proofs.fill_chosen.Reads as reads
-use Rattle.lent_blocks.proofs.fill_chosen.Lts as lts
-use Rattle.placements.proofs.fill_next.Reads as fill-next-reads
-use Rattle.placements.proofs.nothing_left.Reads as nothing-left-reads
 
 fill-next-requires : tie.Need-fill-next-requires
 fill-next-requires c κs = search needs
@@ -33,8 +29,8 @@ returns c =
       filled .ensures .0,
       λ _. filled .ensures .1,
       λ bs best long walk is here.
-      next-opened (a .config) (a .domain) (a .n) (a .rest) (filled .result .rest) bs (a .owner) (filled .result .owner) (filled .result .block) best _ _ _ _ _ _ m long
-      walk is (omega (arith, long, less)) (λ t same owns at inside chosen. filled .ensures .2 t same owns (at ∙ here) inside chosen),
+          next-opened (a .config) (a .domain) (a .n) (a .rest) (filled .result .rest) bs (a .owner) (filled .result .owner) (filled .result .block) best _ _ _ _ _ _ m long
+          walk is (omega (arith, long, less)) (λ t same owns at inside chosen. filled .ensures .2 t same owns (at ∙ here) inside chosen),
     )
 
 nothing-left-requires : tie.Need-nothing-left-requires
@@ -50,11 +46,11 @@ returns-2 c =
       omega (arith, none, asked .1),
       λ some. absurd (some none),
       λ bs best long walk is here.
-      subst (λ (r : Rest). OpenedNext (a .config) (a .domain) (a .rest) bs (a .owner) (a .store .now) (a .words .now) r (set bs (a .n) (a .block)) (a .owner)
-      (a .store .now) (a .words .now)) (sym e)
-      (subst (λ (bs′ : List Block). OpenedNext (a .config) (a .domain) (a .rest) bs (a .owner) (a .store .now) (a .words .now) nothingLeft bs′ (a .owner)
-      (a .store .now) (a .words .now)) (sym (set-out bs (a .n) (a .block) (omega (arith, long, past))))
-      (next-none (a .config) (a .domain) (a .rest) bs (a .owner) best (a .store .now) (a .words .now) _ _ (asked .0) long walk (omega (arith, long, past, is)))),
+          subst (λ (r : Rest). OpenedNext (a .config) (a .domain) (a .rest) bs (a .owner) (a .store .now) (a .words .now) r (set bs (a .n) (a .block)) (a .owner)
+          (a .store .now) (a .words .now)) (sym e)
+          (subst (λ (bs′ : List Block). OpenedNext (a .config) (a .domain) (a .rest) bs (a .owner) (a .store .now) (a .words .now) nothingLeft bs′ (a .owner)
+          (a .store .now) (a .words .now)) (sym (set-out bs (a .n) (a .block) (omega (arith, long, past))))
+          (next-none (a .config) (a .domain) (a .rest) bs (a .owner) best (a .store .now) (a .words .now) _ _ (asked .0) long walk (omega (arith, long, past, is)))),
     )
 
 pub fill-chosen-spec : {M : Type 1} → statement M
