@@ -17,8 +17,9 @@ use Rattle.model.specs.declared.block.Block.{Block}
 use Rattle.model.specs.declared.table.Domain.{Domain}
 use Rattle.model.specs.declared.table.Table.{Table}
 use Rattle.placements.proofs.Next.{set-twice}
-use Rattle.placements.proofs.Stepping.{rest-none}
-use Rattle.placements.specs.Onwards.{GoesOn, MayGoOn, OpenedNext, nothingLeft}
+use Rattle.placements.proofs.Stepping.{rest-none, rest-zero}
+use Rattle.placements.specs.Onwards.{GoesOn, MayGoOn, OpenedNext, WrittenOn, nothingLeft}
+use Rattle.placements.specs.declared.filling.Filled.{Filled}
 use Rattle.placements.specs.declared.rest.Rest.{Rest}
 use Rattle.rules.proofs.Blocks.{Choice, choice}
 use Rattle.rules.proofs.Drive.{overwritten-nothing}
@@ -28,7 +29,7 @@ use Rattle.survey.proofs.Choices.{chosen-found}
 use Rattle.survey.specs.Free.{Chosen, noCandidate}
 use Rattle.survey.specs.Sight.{foundIn, foundOf}
 use Rattle.survey.specs.declared.free.Candidate.{Candidate}
-use Rattle.tables.specs.Changing.{tableWith, withOwner}
+use Rattle.tables.specs.Changing.{presentBlocks, tableWith, withOwner}
 use Rattle.tables.specs.Serving.{drive}
 
 nothing-at : (k : ℕ) (words : List ℕ) → overwritten k [] words ≡ words
@@ -111,3 +112,25 @@ next-none c d r bs owner best store words entries room m long walk l t same all 
     none-inside (some n) e f =
         let chosen = subst (λ (o : Option ℕ). Choice (tableWith bs d owner t) (size t) o) e (choice (tableWith bs d owner t) (size t)) in
         absurd (not-found n (f ∙ e) (omega (arith, chosen .inside, l, long, ap (λ (x : Config). x .blocks) same)))
+
+-- ---- Block after block
+
+-- What `open_next` ensures of its result f, and of the blocks, the store and the words at the exit.
+abbrev pub Opens : Config → ℕ → Domain → Rest → List Block → List ℕ → List ℕ → Filled → List Block → List ℕ → List ℕ → Type 0
+Opens c d owner r bs store words f bs′ store′ words′ =
+    (f .rest .count .0 < r .count .0) × (¬ (f .rest .count .0 ≡ 0) → MayGoOn c (length store′) (length words′) d (f .owner) (f .rest))
+    × OpenedNext c d r bs owner store words (f .rest) bs′ (f .owner) store′ words′
+
+-- Once nothing is left, all is written.
+pub all-written : (c : Config) (d : ℕ) (r left : Rest) (bs bs′ : List Block) (owner owner′ : Domain) (store words store′ words′ : List ℕ) → left .count .0 ≡ 0
+    → OpenedNext c d r bs owner store words left bs′ owner′ store′ words′ → WrittenOn c d r bs owner store words bs′ owner′ store′ words′
+all-written c d r left bs bs′ owner owner′ store words store′ words′ over goes t same all =
+    let nothing = rest-zero d left (drive (tableWith bs′ d owner′ t) store′) over in
+    goes t same all (drive (tableWith bs′ d owner′ t) store′) words′ record {
+      leaves = ap (λ (x : Written). x .drive) (sym nothing);
+      fills = sym (nothing-at (left .done) words′) ∙ ap (λ (x : Written). overwritten (left .done) (x .addresses) words′) (sym nothing);
+    }
+
+-- Within the limits, the blocks that are present are those of the configuration.
+pub all-present : (c : Config) → withinLimits c ≡ true → presentBlocks c ≡ c .blocks
+all-present c within = rw within

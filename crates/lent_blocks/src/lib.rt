@@ -4,6 +4,7 @@ use countdown::count_down;
 use geometry::Config;
 use model::Block;
 use model::Domain;
+use placements::Filled;
 use placements::Rest;
 use placements::fill_next;
 use placements::nothing_left;
@@ -20,7 +21,7 @@ use survey::scan_block;
 use tables::Change;
 use tables::clear_block;
 ghost use Prim.Native.Nat.{_<_, _≤_};
-ghost use mathlib.Core.List.{map};
+ghost use mathlib.Core.List.{List, map};
 ghost use mathlib.Core.Path.{_≡_};
 ghost use lib.ListN.{getD, length, set, take};
 ghost use Rattle.rules.specs.Domains.{freedIfHeld};
@@ -165,10 +166,28 @@ pub fn change_blocks(blocks: &mut [Block], change: Change)
     }
 }
 
-// What is left to write after a block more, and its owner's record.
-struct Progress {
-    pub owner: Domain,
-    pub rest: Rest,
+// What is left of a write goes into block n, the Free one to be opened next, as far as it fits. Where no block has that number, nothing is left.
+fn fill_chosen(
+    config: Config,
+    domain: u64,
+    owner: Domain,
+    rest: Rest,
+    n: u64,
+    block: Block,
+    store: &mut [u64],
+    words: &mut [u64],
+) -> Filled
+    requires { ⌜ MayGoOn config (length (now store)) (length (now words)) domain owner rest × (¬ (rest .count .0 ≡ 0)) ⌝ }
+    ensures { λ r. ⌜ (r .rest .count .0 < rest .count .0) × (¬ (r .rest .count .0 ≡ 0) → MayGoOn config (length (now (store .exit))) (length (now (words .exit))) domain (r .owner) (r .rest)) × ((bs : List Block) (best : Candidate) → length bs ≡ config .blocks → Chosen 0 bs noCandidate best → best .number ≡ n → getD bs n clearBlock ≡ block → OpenedNext config domain rest bs owner (now (store .entry)) (now (words .entry)) (r .rest) (set bs n (r .block)) (r .owner) (now (store .exit)) (now (words .exit))) ⌝ }
+{
+    if n < config.blocks {
+        return fill_next(config, domain, owner, rest, n, block, store, words);
+    }
+    Filled {
+        block,
+        owner,
+        rest: nothing_left(),
+    }
 }
 
 // The Free block to be opened next is opened for what is left of a write, and takes what fits it. Where no block is Free, nothing is left.
@@ -180,29 +199,17 @@ fn open_next(
     rest: Rest,
     store: &mut [u64],
     words: &mut [u64],
-) -> Progress
+) -> Filled
     requires { ⌜ MayGoOn config (length (now store)) (length (now words)) domain owner rest × (¬ (rest .count .0 ≡ 0)) × (length (now blocks) ≡ config .blocks) ⌝ }
     ensures { λ r. ⌜ (r .rest .count .0 < rest .count .0) × (¬ (r .rest .count .0 ≡ 0) → MayGoOn config (length (now (store .exit))) (length (now (words .exit))) domain (r .owner) (r .rest)) × OpenedNext config domain rest (now (blocks .entry)) owner (now (store .entry)) (now (words .entry)) (r .rest) (now (blocks .exit)) (r .owner) (now (store .exit)) (now (words .exit)) ⌝ }
 {
     let best = choose_free(blocks, blocks.len());
     let n = best.number;
-    if n < blocks.len() as u64 {
-        let at = n as usize;
-        let block = blocks[at];
-        let filled = fill_next(config, domain, owner, rest, n, block, store, words);
-        let new = filled.block;
-        blocks[at] = new;
-        let after = filled.owner;
-        let left = filled.rest;
-        return Progress {
-            owner: after,
-            rest: left,
-        };
-    }
-    Progress {
-        owner,
-        rest: nothing_left(),
-    }
+    let block = block_at(blocks, n);
+    let filled = fill_chosen(config, domain, owner, rest, n, block, store, words);
+    let new = filled.block;
+    put_block(blocks, n, new);
+    filled
 }
 
 // What is left of a write goes into blocks that are opened for it, one after the other: the owner's record afterwards.
