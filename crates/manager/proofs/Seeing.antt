@@ -123,8 +123,10 @@ pub complete-answer : (v : View) (k : Command) (marks store words bytes : List �
     → Answered v k marks store words bytes r store′ words′ bytes′
 unfolding Answered
 complete-answer v k marks store words bytes o r store′ words′ bytes′ is serves =
-    rw is (complete-may (v .config) (length store′) (length words′) o,
-    λ t p. complete-finishes t k store words bytes o store′ words′ bytes′ (serves t p))
+    rw is (
+      complete-may (v .config) (length store′) (length words′) o,
+      λ t p. complete-finishes t k store words bytes o store′ words′ bytes′ (serves t p),
+    )
 
 -- The configuration that is seen is the one that was read.
 pub view-config : (v : View) (command : Command) (marks : List ℕ) (r : Sight) → Viewed v command marks

@@ -50,7 +50,16 @@ pub fn fill_next(
     let fresh = opened.block;
     let new = opened.owner;
     let put = smaller(count, adus_per_block(config));
-    let written = written_into(config, domain, n, fresh, start, put, store, &mut words[done..]);
+    let written = written_into(
+        config,
+        domain,
+        n,
+        fresh,
+        start,
+        put,
+        store,
+        &mut words[done..],
+    );
     let left = Rest {
         placement: rest.placement,
         start: user_address(start, put.0),

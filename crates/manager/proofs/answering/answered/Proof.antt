@@ -149,19 +149,16 @@ complete-requires-11 c κs = search needs
 returns : tie.Need-returns
 unfolding subjectOf
 returns c = let d = c .before in let z = d .before .before .before .before .before .before .before .before .before .args in let told = d .before .before .command .given .1 in
-    
     rw told (complete-answer (z .view) _ (z .marks .now) (z .store .now) (z .words .now) (z .bytes .now) _ (c .complete .result) _ _ _ (c .complete .ensures) (λ t p. d .create .ensures t (z .store .now) (z .words .now) (z .bytes .now) (made (d .before .before .before .before) _ told t p .sees)))
 
 returns-2 : tie.Need-returns-2
 unfolding subjectOf
 returns-2 c = let d = c .before in let z = d .before .before .before .before .before .before .before .before .before .args in let told = d .before .before .command2 .given .1 in
-    
     rw told (complete-answer (z .view) _ (z .marks .now) (z .store .now) (z .words .now) (z .bytes .now) _ (c .complete2 .result) _ _ _ (c .complete2 .ensures) (λ t p. d .change-capacity .ensures t (z .store .now) (z .words .now) (z .bytes .now) (made (d .before .before .before .before) _ told t p .sees)))
 
 returns-3 : tie.Need-returns-3
 unfolding subjectOf
 returns-3 c = let d = c .before in let z = d .before .before .before .before .before .before .before .before .before .args in let told = d .before .before .command3 .given .1 in
-    
     rw told (complete-answer (z .view) _ (z .marks .now) (z .store .now) (z .words .now) (z .bytes .now) _ (c .complete3 .result) _ _ _ (c .complete3 .ensures) (λ t p. d .delete .ensures t (z .store .now) (z .words .now) (z .bytes .now) (made (d .before .before .before .before) _ told t p .sees)))
 
 same-length : tie.Need-same-length
@@ -170,19 +167,16 @@ same-length c = search needs
 returns-4 : tie.Need-returns-4
 unfolding subjectOf
 returns-4 c = let d = c .before in let z = d .before .before .before .before .before .before .before .before .before .before .before .before .args in let told = d .before .before .before .before .before .command4 .given .1 in
-    
     rw told (complete-answer (z .view) _ (z .marks .now) (z .store .now) (z .words .now) (z .bytes .now) _ (c .complete4 .result) _ _ _ (c .complete4 .ensures) (λ t p. let s = made (d .before .before .before .before .before .before .before) _ told t p in d .before .before .erase .ensures t (z .words .now) (z .bytes .now) (s .sees) (s .names refl) (s .chooses refl)))
 
 returns-5 : tie.Need-returns-5
 unfolding subjectOf
 returns-5 c = let d = c .before in let z = d .before .before .before .before .before .before .before .before .before .args in let told = d .before .before .command5 .given .1 in
-    
     rw told (complete-answer (z .view) _ (z .marks .now) (z .store .now) (z .words .now) (z .bytes .now) _ (c .complete5 .result) _ _ _ (c .complete5 .ensures) (λ t p. let s = made (d .before .before .before .before) _ told t p in d .close .ensures t (z .store .now) (z .words .now) (z .bytes .now) (s .sees) (s .names refl refl)))
 
 returns-6 : tie.Need-returns-6
 unfolding subjectOf
 returns-6 c = let d = c .before in let z = d .before .before .before .before .before .before .before .before .before .args in let told = d .before .before .command6 .given .1 in
-    
     rw told (complete-answer (z .view) _ (z .marks .now) (z .store .now) (z .words .now) (z .bytes .now) _ (c .complete6 .result) _ _ _ (c .complete6 .ensures) (λ t p. let s = made (d .before .before .before .before) _ told t p in d .free .ensures t (z .store .now) (z .words .now) (z .bytes .now) (s .sees) (s .names refl refl)))
 
 same-length-2 : tie.Need-same-length-2
@@ -210,7 +204,6 @@ same-length-5 c = search needs
 returns-8 : tie.Need-returns-8
 unfolding subjectOf
 returns-8 c = let d = c .before in let z = d .before .before .before .before .before .before .before .before .before .before .before .before .before .before .before .args in let told = d .before .before .before .before .before .before .before .before .command8 .given .1 in
-    
     rw told (complete-answer (z .view) _ (z .marks .now) (z .store .now) (z .words .now) (z .bytes .now) _ (c .complete7 .result) _ _ _ (c .complete7 .ensures) (λ t p. let s = made (d .before .before .before .before .before .before .before .before .before .before) _ told t p in d .before .before .before .before .write-by-block .ensures t (z .bytes .now) (s .sees) (s .names refl refl)))
 
 same-length-6 : tie.Need-same-length-6
@@ -222,7 +215,6 @@ same-length-7 c = search needs
 returns-9 : tie.Need-returns-9
 unfolding subjectOf
 returns-9 c = let d = c .before in let z = d .before .before .before .before .before .before .before .before .before .before .before .before .before .before .args in let told = d .before .before .before .before .before .before .before .command9 .given .1 in
-    
     rw told (complete-answer (z .view) _ (z .marks .now) (z .store .now) (z .words .now) (z .bytes .now) _ (c .complete8 .result) _ _ _ (c .complete8 .ensures) (λ t p. let s = made (d .before .before .before .before .before .before .before .before .before) _ told t p in
     left t _ (d .before .before .before .read .result) (d .unchanged .result) (z .store .now) (z .words .now) (z .bytes .now) _ _ _ (d .unchanged .ensures)
     (d .before .before .before .read .ensures t (z .bytes .now) (s .sees) (sees-read t _ _ (d .before .before .before .before .before .before .before .before .before .sighted .result) (s .sees) (s .names refl refl)))))
@@ -233,7 +225,6 @@ same-length-8 c = search needs
 returns-10 : tie.Need-returns-10
 unfolding subjectOf
 returns-10 c = let d = c .before in let z = d .before .before .before .before .before .before .before .before .before .before .before .before .before .args in let told = d .before .before .before .before .before .before .command10 .given .1 in
-    
     rw told (complete-answer (z .view) _ (z .marks .now) (z .store .now) (z .words .now) (z .bytes .now) _ (c .complete9 .result) _ _ _ (c .complete9 .ensures) (λ t p. let s = made (d .before .before .before .before .before .before .before .before) _ told t p in
     left t _ (d .before .before .before .page .result) (d .unchanged2 .result) (z .store .now) (z .words .now) (z .bytes .now) _ _ _ (d .unchanged2 .ensures)
     (d .before .before .before .page .ensures t (z .store .now) (z .words .now) (s .sees) (s .names refl refl))))
@@ -244,7 +235,6 @@ same-length-9 c = search needs
 returns-11 : tie.Need-returns-11
 unfolding subjectOf
 returns-11 c = let d = c .before in let z = d .before .before .before .before .before .before .before .before .before .before .before .before .before .args in let told = d .before .before .before .before .before .before .command11 .given .1 in
-    
     rw told (complete-answer (z .view) _ (z .marks .now) (z .store .now) (z .words .now) (z .bytes .now) _ (c .complete10 .result) _ _ _ (c .complete10 .ensures) (λ t p. let s = made (d .before .before .before .before .before .before .before .before) _ told t p in
     left t _ (d .before .before .before .list .result) (d .unchanged3 .result) (z .store .now) (z .words .now) (z .bytes .now) _ _ _ (d .unchanged3 .ensures)
     (d .before .before .before .list .ensures t (z .store .now) (z .words .now) (s .sees) (s .lists refl))))
@@ -252,7 +242,6 @@ returns-11 c = let d = c .before in let z = d .before .before .before .before .b
 returns-12 : tie.Need-returns-12
 unfolding subjectOf
 returns-12 c = let d = c .before in let z = d .before .before .before .before .before .before .before .before .before .args in let told = d .before .before .command12 .given .1 in
-    
     rw told (complete-answer (z .view) _ (z .marks .now) (z .store .now) (z .words .now) (z .bytes .now) _ (c .complete11 .result) _ _ _ (c .complete11 .ensures) (λ t p. d .pulse .ensures t (z .store .now) (z .words .now) (z .bytes .now) (made (d .before .before .before .before) _ told t p .sees)))
 
 pub answered-spec : {M : Type 1} → statement M

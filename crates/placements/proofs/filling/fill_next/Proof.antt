@@ -93,26 +93,26 @@ returns c = let z = c .before .before .before .before .before .before .before .b
     let long : length (rejoined (r .done) (a .words .now) part) ≡ length (a .words .now) =
     rejoined-long (r .done) (a .words .now) part (omega (arith, m .enough)) (written .kept .1 .1 .1 .1 .1 .1 .1 .0) in (
       omega (arith, left-is, some, z .pre .1 .0),
-        record {
-          within = m .within;
-          id = m .id;
-          all-entries = written .kept .1 .1 .1 .1 .1 .1 .0 ∙ opened .kept .1 .1 .1 .1 .1 .1 .0 ∙ m .all-entries;
-          serials = rw left-is (omega (arith, m .serials, more-serials (a .config) (m .within) (a .owner .last) (r .count .0) _ (z .pre .1 .0) last));
-          fit = rw (next .ensures, left .ensures) (later-fit (r .start) (r .count .0) (small .result .0) (m .fit));
-          enough = omega (arith, long, left .ensures, small .ensures, m .enough);
-        },
-        λ t e o b inside is.
-            let same : restAfter r (min (r .count .0) (adusPerBlock (t .config) .0))
-            ≡ record { placement = r .placement; start = next .result; count = left .result; done = r .done + small .result .0 } =
-            rw (e, sym put, next .ensures) (ap (λ (k : ℕ). record { placement = r .placement; start = userAddress (r .start) (small .result .0); count = adus k; done = r .done + small .result .0 }) (sym (left .ensures))) in
-            subst (λ (x : Rest). GoesOn (a .domain) r (drive t (a .store .now)) (a .words .now) x
-            (drive (withDomain (a .domain) (opened .result .owner) (withBlock (a .n) (written .result) t)) (written .last .1 .1 .1 .1 .1 .1 .0))
-            (rejoined (r .done) (a .words .now) part)) same
-            (filled-next (a .domain) (a .n) r t (opened .result .block) (written .result) (opened .result .owner) (a .store .now)
-            (opened .last .1 .1 .1 .1 .1 .1 .0) (written .last .1 .1 .1 .1 .1 .1 .0) (a .words .now) part
-            inside is (z .pre .1 .0) (rw e some) (m .fit) (omega (arith, m .enough)) (opened .ensures .2 t e o b)
-            (λ u eu hu. subst (λ (k : ℕ). Wrote (writtenInto (a .domain) (a .n) (userAddresses (r .start) k) (drive u (opened .last .1 .1 .1 .1 .1 .1 .0))) (behind (r .done) (a .words .now))
-            (drive (withBlock (a .n) (written .result) u) (written .last .1 .1 .1 .1 .1 .1 .0)) part) (put ∙ rw e) (written .ensures u (eu ∙ e) hu))),
+      record {
+        within = m .within;
+        id = m .id;
+        all-entries = written .kept .1 .1 .1 .1 .1 .1 .0 ∙ opened .kept .1 .1 .1 .1 .1 .1 .0 ∙ m .all-entries;
+        serials = rw left-is (omega (arith, m .serials, more-serials (a .config) (m .within) (a .owner .last) (r .count .0) _ (z .pre .1 .0) last));
+        fit = rw (next .ensures, left .ensures) (later-fit (r .start) (r .count .0) (small .result .0) (m .fit));
+        enough = omega (arith, long, left .ensures, small .ensures, m .enough);
+      },
+      λ t e o b inside is.
+          let same : restAfter r (min (r .count .0) (adusPerBlock (t .config) .0))
+          ≡ record { placement = r .placement; start = next .result; count = left .result; done = r .done + small .result .0 } =
+          rw (e, sym put, next .ensures) (ap (λ (k : ℕ). record { placement = r .placement; start = userAddress (r .start) (small .result .0); count = adus k; done = r .done + small .result .0 }) (sym (left .ensures))) in
+          subst (λ (x : Rest). GoesOn (a .domain) r (drive t (a .store .now)) (a .words .now) x
+          (drive (withDomain (a .domain) (opened .result .owner) (withBlock (a .n) (written .result) t)) (written .last .1 .1 .1 .1 .1 .1 .0))
+          (rejoined (r .done) (a .words .now) part)) same
+          (filled-next (a .domain) (a .n) r t (opened .result .block) (written .result) (opened .result .owner) (a .store .now)
+          (opened .last .1 .1 .1 .1 .1 .1 .0) (written .last .1 .1 .1 .1 .1 .1 .0) (a .words .now) part
+          inside is (z .pre .1 .0) (rw e some) (m .fit) (omega (arith, m .enough)) (opened .ensures .2 t e o b)
+          (λ u eu hu. subst (λ (k : ℕ). Wrote (writtenInto (a .domain) (a .n) (userAddresses (r .start) k) (drive u (opened .last .1 .1 .1 .1 .1 .1 .0))) (behind (r .done) (a .words .now))
+          (drive (withBlock (a .n) (written .result) u) (written .last .1 .1 .1 .1 .1 .1 .0)) part) (put ∙ rw e) (written .ensures u (eu ∙ e) hu))),
     )
 
 pub fill-next-spec : {M : Type 1} → statement M

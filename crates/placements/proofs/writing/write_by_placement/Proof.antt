@@ -84,13 +84,13 @@ same-length-2 c = search needs
 
 returns-3 : tie.Need-returns-3
 returns-3 c = let z = c .before .before .before .before .before .before .before .before .before .before .before .before .before .before .args in let w = c .before .before .before .before .placed in let e = not-false _ (c .before .before .before .before .before .before .before .before .before .before .if1 .left) in (
-      λ ne. rw (w .ensures .1) (w .ensures .2),
-      λ t bytes s q u left filled went.
-          let pass = passed (c .before .before .before .before .before .before .before) t s in
-          rw (w .ensures .0) (place-done t (z .store .now) (z .words .now) bytes (z .domain) (z .placement) (z .start) (z .count) u left filled (sym (s .tested) ∙ e)
-          (sym (placement-asked t (z .domain) (z .placement) (z .sight) s q e (z .store .now) (length (z .store .now)) (length (z .words .now)) (length bytes) (z .start) (z .count)) ∙ pass)
-          (w .ensures .3 t (places t (z .domain) (z .placement) (z .sight) s q e) (drive u left) filled (rw (sym (w .ensures .1)) went))),
-    )
+  λ ne. rw (w .ensures .1) (w .ensures .2),
+  λ t bytes s q u left filled went.
+      let pass = passed (c .before .before .before .before .before .before .before) t s in
+      rw (w .ensures .0) (place-done t (z .store .now) (z .words .now) bytes (z .domain) (z .placement) (z .start) (z .count) u left filled (sym (s .tested) ∙ e)
+      (sym (placement-asked t (z .domain) (z .placement) (z .sight) s q e (z .store .now) (length (z .store .now)) (length (z .words .now)) (length bytes) (z .start) (z .count)) ∙ pass)
+      (w .ensures .3 t (places t (z .domain) (z .placement) (z .sight) s q e) (drive u left) filled (rw (sym (w .ensures .1)) went))),
+)
 
 pub write-by-placement-spec : {M : Type 1} → statement M
 write-by-placement-spec =
