@@ -2,7 +2,6 @@
 // came with it. For the C host those are the buffer's 64 bytes as eight numbers, so that one which is
 // not filled is seen to be as it was.
 ghost use Prim.Native.Nat.{_≤_};
-use crate::tokens::NONE;
 use geometry::Adus;
 use geometry::Config;
 use geometry::Created;
@@ -10,6 +9,9 @@ use geometry::Elements;
 use geometry::FlashAddress;
 use geometry::Parsed;
 use geometry::Planes;
+
+// What stands for a number where there is none: 8 bytes of a buffer that nothing has filled.
+pub const NONE: u64 = 0xa5a5_a5a5_a5a5_a5a5;
 
 // The numbers before a line's `=`, in its order.
 pub struct Given {

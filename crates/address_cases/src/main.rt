@@ -2,7 +2,6 @@
 // written out, and prints a line for each. A line that begins 'WRONG' is a case that fails.
 mod calls;
 mod script;
-mod tokens;
 
 fn main() {
     script::run();

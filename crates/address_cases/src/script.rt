@@ -21,8 +21,12 @@
 // and all of them after a refusal, are to be as they were. `create` and `parse` do the same by value.
 use crate::calls::CONFIG;
 use crate::calls::Given;
+use crate::calls::NONE;
 use crate::calls::called;
-use crate::tokens::line_of;
+use case_lines::Line;
+use case_lines::line_of;
+use case_lines::part_at;
+use case_lines::wanted_at;
 use geometry::Config;
 use geometry::no_config;
 use libc::STDIN_FILENO;
@@ -34,9 +38,9 @@ ghost use lib.ListN.{length};
 const HEADING: u64 = 0x23;
 
 // Where the numbers got are not those behind the `=`; 9 if they are.
-fn differs(line: [u64; 17], got: [u64; 9]) -> usize {
+fn differs(line: Line, got: [u64; 9]) -> usize {
     for i in 0..9 {
-        if got[i] != line[8 + i] {
+        if got[i] != wanted_at(line, i, NONE) {
             return i;
         }
     }
@@ -56,22 +60,22 @@ fn told(text: &[u8], at: usize, got: [u64; 9]) {
     }
 }
 
-fn given(line: [u64; 17]) -> Given {
+fn given(line: Line) -> Given {
     Given {
-        a: line[1],
-        b: line[2],
-        c: line[3],
-        d: line[4],
-        e: line[5],
-        f: line[6],
-        g: line[7],
+        a: part_at(line, 1),
+        b: part_at(line, 2),
+        c: part_at(line, 3),
+        d: part_at(line, 4),
+        e: part_at(line, 5),
+        f: part_at(line, 6),
+        g: part_at(line, 7),
     }
 }
 
 // One line, and the configuration from then on.
 fn step(config: Config, text: &[u8]) -> Config {
     let line = line_of(text);
-    let word = line[0];
+    let word = part_at(line, 0);
     let mut next = config;
     if word == HEADING {
         io::write_all(STDOUT_FILENO, text);

@@ -27,262 +27,147 @@
 // A command is called on the drive as it is. Its answer is compared with what stands behind the `=`,
 // and the whole table, store, words and bytes with what is wanted: what they were, but for the `want`
 // lines before it. So a refusal has none.
-use crate::called::NONE;
-use crate::called::Reply;
-use crate::called::answered;
-use crate::called::called;
-use crate::compare::same_bytes;
-use crate::compare::same_row;
-use crate::compare::same_table;
-use crate::desk::Desk;
-use crate::desk::config_of;
-use crate::desk::set_bytes;
-use crate::desk::set_row;
-use crate::desk::with_block;
-use crate::desk::with_config;
-use crate::desk::with_domain;
-use crate::tokens::Line;
-use crate::tokens::line_of;
-use crate::tokens::part_at;
-use geometry::Config;
+use case_calls::Lengths;
+use case_calls::NONE;
+use case_calls::Reply;
+use case_calls::begun;
+use case_calls::called;
+use case_drives::Drive;
+use case_drives::Same;
+use case_drives::compared;
+use case_drives::config_of;
+use case_drives::drive_with;
+use case_drives::is_setting;
+use case_drives::same_table;
+use case_drives::set;
+use case_drives::table_with;
+use case_lines::Line;
+use case_lines::line_of;
+use case_lines::part_at;
+use case_lines::wanted_at;
 use geometry::no_config;
 use libc::STDIN_FILENO;
 use libc::STDOUT_FILENO;
 use model::Table;
 use script_lines::line_end;
-use tables::clear_block;
-use tables::clear_domain;
+ghost use mathlib.Core.Path.{_≡_};
 ghost use Prim.Native.Nat.{_≤_};
 ghost use lib.ListN.{length};
 
 const START: u64 = 0x7374617274;
 
-const CONFIG: u64 = 0x636f6e666967;
-
-const DOMAIN: u64 = 0x646f6d61696e;
-
-const BLOCK: u64 = 0x626c6f636b;
-
-const ENTRIES: u64 = 0x656e7472696573;
+const STORE: u64 = 0x73746f7265;
 
 const WORDS: u64 = 0x776f726473;
 
 const BYTES: u64 = 0x6279746573;
 
-const STORE: u64 = 0x73746f7265;
-
 const LEND: u64 = 0x6c656e64;
 
 const WANT: u64 = 0x77616e74;
 
-fn is_setting(word: u64) -> bool {
-    (word == CONFIG)
-        | (word == DOMAIN)
-        | (word == BLOCK)
-        | (word == ENTRIES)
-        | (word == WORDS)
-        | (word == BYTES)
+// The drive as it is and as it is wanted, and the lengths that are lent.
+struct Desk {
+    drive: Drive,
+    wanted: Drive,
+    lent: Lengths,
 }
 
-// One setting, whose word stands at an index of the line.
-fn set(
-    table: Table,
-    line: Line,
-    from: usize,
-    store: &mut [u64],
-    words: &mut [u64],
-    bytes: &mut [u8],
-) -> Table {
-    let word = part_at(line, from);
-    if 2 < from {
-        return table;
-    }
-    let at = part_at(line, from + 1);
-    let count = part_at(line, from + 2);
-    let first = part_at(line, from + 3);
-    let step = part_at(line, from + 4);
-    if word == ENTRIES {
-        set_row(store, at, count, first, step);
-        return table;
-    }
-    if word == WORDS {
-        set_row(words, at, count, first, step);
-        return table;
-    }
-    if word == BYTES {
-        set_bytes(bytes, line, from + 1);
-        return table;
-    }
-    set_table(table, line, from)
-}
-
-fn set_table(table: Table, line: Line, from: usize) -> Table {
-    let word = part_at(line, from);
-    if 2 < from {
-        return table;
-    }
-    if word == CONFIG {
-        return with_config(table, line, from + 1);
-    }
-    if word == DOMAIN {
-        return with_domain(table, line, from + 1);
-    }
-    if word == BLOCK {
-        return with_block(table, line, from + 1);
-    }
-    table
-}
-
-// A length that is lent, no more than there is.
-fn least(n: u64, most: usize) -> usize
-    ensures { λ r. ⌜ r ≤ most ⌝ }
-{
-    if n < most as u64 { n as usize } else { most }
+fn say(text: &[u8]) {
+    io::write_all(STDOUT_FILENO, text);
 }
 
 fn lent(desk: Desk, line: Line) -> Desk {
-    let what = part_at(line, 1);
     let n = part_at(line, 2);
+    let mut lengths = desk.lent;
+    match part_at(line, 1) {
+        STORE => lengths.entries = n,
+        WORDS => lengths.words = n,
+        BYTES => lengths.bytes = n,
+        _ => {}
+    }
     let mut next = desk;
-    if what == STORE {
-        next.entries = least(n, 1280);
-    }
-    if what == WORDS {
-        next.words = least(n, 264);
-    }
-    if what == BYTES {
-        next.bytes = least(n, 2304);
-    }
+    next.lent = lengths;
     next
-}
-
-fn value_at(line: Line, i: usize) -> u64 {
-    if i < line.count {
-        return part_at(line, i);
-    }
-    NONE
 }
 
 // The number is that behind the `=`, and the value the next one, where the line has one.
 fn answers(line: Line, reply: Reply) -> bool {
-    let at = line.wanted;
-    let value = if at < 39 {
-        value_at(line, at + 1)
-    } else {
-        NONE
-    };
-    (reply.number == part_at(line, at)) & (reply.value == value)
+    (reply.number == wanted_at(line, 0, 0)) & (reply.value == wanted_at(line, 1, NONE))
 }
 
 // What went wrong is said behind the line.
 fn tell(right: bool, what: &[u8]) {
     if !right {
-        io::write_all(STDOUT_FILENO, b"; ");
-        io::write_all(STDOUT_FILENO, what);
+        say(b"; ");
+        say(what);
     }
 }
 
-fn told(
-    text: &[u8],
-    answer: bool,
-    table: bool,
-    store: bool,
-    words: bool,
-    bytes: bool,
-    number: u64,
-) {
-    if answer & table & store & words & bytes {
-        io::write_all(STDOUT_FILENO, b"ok     ");
+fn told(text: &[u8], answer: bool, same: Same, number: u64) {
+    if answer & same.table & same.store & same.words & same.bytes {
+        say(b"ok     ");
     } else {
-        io::write_all(STDOUT_FILENO, b"WRONG  ");
+        say(b"WRONG  ");
     }
-    io::write_all(STDOUT_FILENO, text);
-    tell(table, b"table");
-    tell(store, b"store");
-    tell(words, b"words");
-    tell(bytes, b"bytes");
+    say(text);
+    tell(same.table, b"table");
+    tell(same.store, b"store");
+    tell(same.words, b"words");
+    tell(same.bytes, b"bytes");
     if !answer {
-        io::write_all(STDOUT_FILENO, b"; answers ");
+        say(b"; answers ");
         io::print_decimal(STDOUT_FILENO, number);
     }
-    io::write_all(STDOUT_FILENO, b"\n");
+    say(b"\n");
 }
 
-// A table with these numbers and nothing else.
-fn table_with(config: Config) -> Table {
-    let domain = clear_domain();
-    let domains = [domain; 16];
-    let block = clear_block();
-    let blocks = [block; 256];
-    Table {
-        config,
-        domains,
-        blocks,
+// What is wanted of a start: a table with the line's numbers, or with none where it is refused.
+fn wanted_start(line: Line) -> Table {
+    if wanted_at(line, 0, 0) == 0 {
+        table_with(config_of(line, 1))
+    } else {
+        table_with(no_config())
     }
 }
 
+// A start, of which the table alone is compared.
 fn started(desk: Desk, line: Line, text: &[u8]) -> Desk {
-    let config = config_of(line, 1);
-    let wanted = if part_at(line, line.wanted) == 0 {
-        table_with(config)
-    } else {
-        table_with(no_config())
+    let before = desk.drive;
+    let reply = begun(before, config_of(line, 1));
+    let drive = reply.drive;
+    let table = drive.table;
+    let wanted_table = wanted_start(line);
+    let same = Same {
+        table: same_table(table, wanted_table),
+        store: true,
+        words: true,
+        bytes: true,
     };
-    let begun = manager::start(config);
-    let answer = begun.answer;
-    let table = begun.table;
-    let got = answered(answer, table);
+    told(text, answers(line, reply), same, reply.number);
+    let mut wanted = desk.wanted;
+    wanted.table = wanted_table;
     let mut next = desk;
-    next.table = table;
+    next.drive = drive;
     next.wanted = wanted;
-    told(
-        text,
-        answers(line, got),
-        same_table(table, wanted),
-        true,
-        true,
-        true,
-        got.number,
-    );
     next
 }
 
-// A command on the lent parts of the buffers, compared as a whole.
-fn command(
-    desk: Desk,
-    line: Line,
-    text: &[u8],
-    store: &mut [u64],
-    words: &mut [u64],
-    bytes: &mut [u8],
-    wanted_store: &[u64],
-    wanted_words: &[u64],
-    wanted_bytes: &[u8],
-) -> Desk {
-    let entries = least(desk.entries as u64, store.len());
-    let room = least(desk.words as u64, words.len());
-    let size = least(desk.bytes as u64, bytes.len());
-    let before = desk.table;
+// A command, and all that it leaves compared with what is wanted.
+fn command(desk: Desk, line: Line, text: &[u8]) -> Desk {
+    let before = desk.drive;
+    let lent = desk.lent;
+    let reply = called(before, line, lent);
+    let drive = reply.drive;
     let wanted = desk.wanted;
-    let got = called(
-        before,
-        line,
-        &mut store[..entries],
-        &mut words[..room],
-        &mut bytes[..size],
-    );
-    let table = got.table;
     told(
         text,
-        answers(line, got),
-        same_table(table, wanted),
-        same_row(store, wanted_store),
-        same_row(words, wanted_words),
-        same_bytes(bytes, wanted_bytes),
-        got.number,
+        answers(line, reply),
+        compared(drive, wanted),
+        reply.number,
     );
     let mut next = desk;
-    next.table = table;
+    next.drive = drive;
     next
 }
 
@@ -293,158 +178,88 @@ fn is_heading(text: &[u8]) -> bool {
     text[0] == b'#'
 }
 
-// A line that leaves the rows as they are: an empty one, a heading, `lend` and `start`.
-fn is_plain(line: Line, text: &[u8]) -> bool {
-    let word = part_at(line, 0);
-    (line.count == 0) | is_heading(text) | (word == LEND) | (word == START)
-}
-
-fn plain(desk: Desk, line: Line, text: &[u8]) -> Desk {
-    if is_heading(text) {
-        io::write_all(STDOUT_FILENO, text);
-        io::write_all(STDOUT_FILENO, b"\n");
-        return desk;
-    }
-    let word = part_at(line, 0);
-    if word == LEND {
-        return lent(desk, line);
-    }
-    if word == START {
-        return started(desk, line, text);
-    }
+fn heading(desk: Desk, text: &[u8]) -> Desk {
+    say(text);
+    say(b"\n");
     desk
 }
 
 // A setting of what is wanted.
-fn wanting(desk: Desk, line: Line, store: &mut [u64], words: &mut [u64], bytes: &mut [u8]) -> Desk {
+fn wanting(desk: Desk, line: Line) -> Desk {
     let before = desk.wanted;
-    let table = set(before, line, 1, store, words, bytes);
+    let wanted = set(before, line, 1);
     let mut next = desk;
-    next.wanted = table;
+    next.wanted = wanted;
     next
 }
 
 // A setting of the drive as it is, and so of what is wanted.
-fn setting(
-    desk: Desk,
-    line: Line,
-    store: &mut [u64],
-    words: &mut [u64],
-    bytes: &mut [u8],
-    wanted_store: &mut [u64],
-    wanted_words: &mut [u64],
-    wanted_bytes: &mut [u8],
-) -> Desk {
-    let before = desk.table;
-    let wanted = desk.wanted;
-    let table = set(before, line, 0, store, words, bytes);
-    let other = set(wanted, line, 0, wanted_store, wanted_words, wanted_bytes);
+fn setting(desk: Desk, line: Line) -> Desk {
+    let before = desk.drive;
+    let drive = set(before, line, 0);
+    let other = desk.wanted;
+    let wanted = set(other, line, 0);
     let mut next = desk;
-    next.table = table;
-    next.wanted = other;
+    next.drive = drive;
+    next.wanted = wanted;
     next
 }
 
 // One line.
-fn step(
-    desk: Desk,
-    text: &[u8],
-    store: &mut [u64],
-    words: &mut [u64],
-    bytes: &mut [u8],
-    wanted_store: &mut [u64],
-    wanted_words: &mut [u64],
-    wanted_bytes: &mut [u8],
-) -> Desk {
+fn step(desk: Desk, text: &[u8]) -> Desk {
     let line = line_of(text);
-    if is_plain(line, text) {
-        return plain(desk, line, text);
+    if line.count == 0 {
+        return desk;
+    }
+    if is_heading(text) {
+        return heading(desk, text);
     }
     let word = part_at(line, 0);
-    if word == WANT {
-        return wanting(desk, line, wanted_store, wanted_words, wanted_bytes);
-    }
     if is_setting(word) {
-        return setting(
-            desk,
-            line,
-            store,
-            words,
-            bytes,
-            wanted_store,
-            wanted_words,
-            wanted_bytes,
-        );
+        return setting(desk, line);
     }
-    command(
-        desk,
-        line,
-        text,
-        store,
-        words,
-        bytes,
-        wanted_store,
-        wanted_words,
-        wanted_bytes,
-    )
+    match word {
+        LEND => lent(desk, line),
+        START => started(desk, line, text),
+        WANT => wanting(desk, line),
+        _ => command(desk, line, text),
+    }
 }
 
-fn lines(
-    text: &[u8],
-    store: &mut [u64],
-    words: &mut [u64],
-    bytes: &mut [u8],
-    wanted_store: &mut [u64],
-    wanted_words: &mut [u64],
-    wanted_bytes: &mut [u8],
-)
+fn lines(text: &[u8])
     requires { ⌜ length (now text) ≤ 131072 ⌝ }
 {
-    let table = table_with(no_config());
-    let mut desk = Desk {
-        table,
-        wanted: table,
+    let drive = drive_with(no_config());
+    let lent = Lengths {
         entries: 0,
         words: 0,
         bytes: 0,
     };
+    let mut desk = Desk {
+        drive,
+        wanted: drive,
+        lent,
+    };
     let mut at = 0;
     while at < text.len() {
         let end = line_end(text, at);
-        desk = step(
-            desk,
-            &text[at..end],
-            store,
-            words,
-            bytes,
-            wanted_store,
-            wanted_words,
-            wanted_bytes,
-        );
+        desk = step(desk, &text[at..end]);
         at = end + 1;
     }
 }
 
+fn script_memory() -> [u8; 131072]
+    ensures { λ r. ⌜ 131072 ≡ length r ⌝ }
+{
+    [0; 131072]
+}
+
 // The whole of standard input, 131,071 bytes at most.
 pub fn run() {
-    let mut text = [0; 131072];
+    let mut text = script_memory();
     let n = io::read_full(STDIN_FILENO, &mut text);
     if n == 131072 {
-        io::write_all(STDOUT_FILENO, b"WRONG  the script is too long\n");
+        say(b"WRONG  the script is too long\n");
     }
-    let mut store = [0; 1280];
-    let mut words = [0; 264];
-    let mut bytes = [0; 2304];
-    let mut wanted_store = [0; 1280];
-    let mut wanted_words = [0; 264];
-    let mut wanted_bytes = [0; 2304];
-    lines(
-        &text[..n],
-        &mut store,
-        &mut words,
-        &mut bytes,
-        &mut wanted_store,
-        &mut wanted_words,
-        &mut wanted_bytes,
-    );
+    lines(&text[..n]);
 }

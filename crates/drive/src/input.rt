@@ -1,11 +1,11 @@
 // Standard input, line by line. A line may begin in one part that is read and end in a later one; the
 // last may lack its newline.
-use crate::console::Console;
-use crate::console::answer;
-use crate::console::no_drive;
-use crate::errors::tell_too_long;
+use console::answer;
+use console::no_drive;
+use console_state::Console;
 use libc::STDIN_FILENO;
 use script_lines::line_end;
+use shown_lines::tell_too_long;
 ghost use mathlib.Core.Path.{_≡_};
 ghost use Prim.Native.Nat.{_≤_};
 ghost use lib.ListN.{length};
@@ -31,14 +31,7 @@ fn gather(line: &mut [u8], filled: usize, part: &[u8]) -> usize {
 }
 
 // The line that was gathered is answered, and the next one begins.
-fn ended(
-    console: Console,
-    line: &[u8],
-    store: &mut [u64],
-    words: &mut [u64],
-    bytes: &mut [u8],
-    out: &mut [u8],
-) -> Console {
+fn ended(console: Console, line: &[u8], store: &mut [u64]) -> Console {
     let mut next = console;
     let length = next.length;
     next.number = std::num::wrapping_add_u64(next.number, 1);
@@ -47,19 +40,11 @@ fn ended(
         tell_too_long(next.number, LINE as u64);
         return next;
     }
-    answer(next, &line[..length], store, words, bytes, out)
+    answer(next, &line[..length], store)
 }
 
 // The lines that end in a part of the input.
-fn lines(
-    console: Console,
-    text: &[u8],
-    line: &mut [u8],
-    store: &mut [u64],
-    words: &mut [u64],
-    bytes: &mut [u8],
-    out: &mut [u8],
-) -> Console
+fn lines(console: Console, text: &[u8], line: &mut [u8], store: &mut [u64]) -> Console
     requires { ⌜ length (now text) ≤ 65536 ⌝ }
 {
     let mut current = console;
@@ -71,23 +56,16 @@ fn lines(
         if end == text.len() {
             return current;
         }
-        current = ended(current, line, store, words, bytes, out);
+        current = ended(current, line, store);
         at = end + 1;
     }
     current
 }
 
 // A last line that lacks its newline.
-fn last_line(
-    console: Console,
-    line: &[u8],
-    store: &mut [u64],
-    words: &mut [u64],
-    bytes: &mut [u8],
-    out: &mut [u8],
-) {
+fn last_line(console: Console, line: &[u8], store: &mut [u64]) {
     if 0 < console.length {
-        ended(console, line, store, words, bytes, out);
+        ended(console, line, store);
     }
 }
 
@@ -100,14 +78,7 @@ fn read_some(text: &mut [u8]) -> usize
 }
 
 // Reads to the end of the input.
-fn read_all(
-    text: &mut [u8],
-    line: &mut [u8],
-    store: &mut [u64],
-    words: &mut [u64],
-    bytes: &mut [u8],
-    out: &mut [u8],
-)
+fn read_all(text: &mut [u8], line: &mut [u8], store: &mut [u64])
     requires { ⌜ length (now text) ≤ 65536 ⌝ }
 {
     let mut console = no_drive();
@@ -115,10 +86,10 @@ fn read_all(
     while 0 < turns {
         let n = read_some(text);
         if n == 0 {
-            last_line(console, line, store, words, bytes, out);
+            last_line(console, line, store);
             return;
         }
-        console = lines(console, &text[..n], line, store, words, bytes, out);
+        console = lines(console, &text[..n], line, store);
         turns -= 1;
     }
 }
@@ -130,32 +101,9 @@ fn store_memory() -> [u64; 262144]
     [0; 262144]
 }
 
-fn word_memory() -> [u64; 4096]
-    ensures { λ r. ⌜ 4096 ≡ length r ⌝ }
-{
-    [0; 4096]
-}
-
-// Room for the longest line that is printed: 4,096 words.
-fn line_memory() -> [u8; 73728]
-    ensures { λ r. ⌜ 73728 ≡ length r ⌝ }
-{
-    [0; 73728]
-}
-
 pub fn run() {
     let mut text = io::large_buffer();
     let mut line = io::buffer();
     let mut store = store_memory();
-    let mut words = word_memory();
-    let mut bytes = io::buffer();
-    let mut out = line_memory();
-    read_all(
-        &mut text,
-        &mut line,
-        &mut store,
-        &mut words,
-        &mut bytes,
-        &mut out,
-    );
+    read_all(&mut text, &mut line, &mut store);
 }

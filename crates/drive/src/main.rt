@@ -1,9 +1,6 @@
 // A drive at the command line: a script on standard input, a command a line, and an answer to each on
 // standard output.
-mod console;
-mod errors;
 mod input;
-mod show;
 
 fn main() {
     input::run();

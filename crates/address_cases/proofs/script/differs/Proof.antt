@@ -20,14 +20,8 @@ mul-if1 c = omega arith
 array-read-if1 : tie.Need-array-read-if1 Inv-loop μ-loop
 array-read-if1 c = omega arith
 
-add-if1 : tie.Need-add-if1 Inv-loop μ-loop
-add-if1 c = omega arith
-
-mul-if1-2 : tie.Need-mul-if1-2 Inv-loop μ-loop
-mul-if1-2 c = omega arith
-
-array-read-if1-2 : tie.Need-array-read-if1-2 Inv-loop μ-loop
-array-read-if1-2 c = omega arith
+wanted-at-requires : tie.Need-wanted-at-requires Inv-loop μ-loop
+wanted-at-requires c κs = search needs
 
 returns : tie.Need-returns Inv-loop μ-loop
 returns c = search needs
@@ -53,9 +47,7 @@ differs-spec =
     loop-holds
     mul-if1
     array-read-if1
-    add-if1
-    mul-if1-2
-    array-read-if1-2
+    wanted-at-requires
     returns
     add-i
     loop-less

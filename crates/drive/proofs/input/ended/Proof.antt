@@ -15,22 +15,13 @@ returns : tie.Need-returns
 returns c = search needs
 
 slice-aggregate-answer : tie.Need-slice-aggregate-answer
-slice-aggregate-answer c = sym (length-take-le (c .before .before .before .before .before .before .before .before .args .console .length) _ (c .before .if1 .left))
+slice-aggregate-answer c = sym (length-take-le (c .before .before .before .before .before .args .console .length) _ (c .before .if1 .left))
 
 answer-requires : tie.Need-answer-requires
 answer-requires c κs = search needs
 
 same-length : tie.Need-same-length
 same-length c = search needs
-
-same-length-2 : tie.Need-same-length-2
-same-length-2 c = search needs
-
-same-length-3 : tie.Need-same-length-3
-same-length-3 c = search needs
-
-same-length-4 : tie.Need-same-length-4
-same-length-4 c = search needs
 
 returns-2 : tie.Need-returns-2
 returns-2 c = search needs
@@ -45,7 +36,4 @@ ended-spec =
     slice-aggregate-answer
     answer-requires
     same-length
-    same-length-2
-    same-length-3
-    same-length-4
     returns-2)

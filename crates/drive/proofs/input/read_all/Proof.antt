@@ -1,5 +1,5 @@
 -- Every buffer keeps its length.
-use mathlib.Core.Path.{_≡_, _∙_}
+use mathlib.Core.Path.{_≡_}
 use lib.ListN.{length}
 use native.Mathlib.Omega.{arith}
 use borrow.Author.Needs.{needs}
@@ -7,14 +7,11 @@ use Rattle.drive.proofs.input.read_all.Statement.{statement}
 use Rattle.drive.proofs.input.read_all.Tie as tie
 
 abbrev Inv-loop : tie.InvT-loop
-Inv-loop text₀ line₀ store₀ words₀ bytes₀ out₀ console₀ turns₀ text line store words bytes out console turns = (length text ≡ length text₀) × (length line ≡ length line₀) × (length store ≡ length store₀) × (length words ≡ length words₀) × (length bytes ≡ length bytes₀) × (length out ≡ length out₀)
+Inv-loop text₀ line₀ store₀ console₀ turns₀ text line store console turns =
+    (length text ≡ length text₀) × (length line ≡ length line₀) × (length store ≡ length store₀)
 
 abbrev μ-loop : tie.MeasureT-loop
-μ-loop text₀ line₀ store₀ words₀ bytes₀ out₀ console₀ turns₀ text line store words bytes out console turns = turns
-
--- Where a part of the input was read, from where its lines were answered.
-abbrev read : tie.After-lines Inv-loop μ-loop → tie.After-text Inv-loop μ-loop
-read c = c .before .before .before .before .before .before .before .before .before
+μ-loop text₀ line₀ store₀ console₀ turns₀ text line store console turns = turns
 
 no-drive-requires : tie.Need-no-drive-requires Inv-loop μ-loop
 no-drive-requires c κs = search needs
@@ -37,15 +34,6 @@ same-length-2 c = search needs
 same-length-3 : tie.Need-same-length-3 Inv-loop μ-loop
 same-length-3 c = search needs
 
-same-length-4 : tie.Need-same-length-4 Inv-loop μ-loop
-same-length-4 c = search needs
-
-same-length-5 : tie.Need-same-length-5 Inv-loop μ-loop
-same-length-5 c = search needs
-
-same-length-6 : tie.Need-same-length-6 Inv-loop μ-loop
-same-length-6 c = search needs
-
 returns : tie.Need-returns Inv-loop μ-loop
 returns c = search needs
 
@@ -65,38 +53,16 @@ loop-less : tie.Need-loop-less Inv-loop μ-loop
 loop-less c = omega arith
 
 loop-again : tie.Need-loop-again Inv-loop μ-loop
-loop-again c =
-    let b = c .before .before .before in
-    let w = b .before .before in
-    let s = w .before .before in
-    let g = s .before .before in
-    let t = read (g .before) in
-    let l = t .before .before .before .before .loop in (
-      t .text .given ∙ l .inv .0,
-      g .line .given ∙ l .inv .1,
-      s .store2 .given ∙ l .inv .2,
-      w .words2 .given ∙ l .inv .3,
-      b .bytes2 .given ∙ l .inv .4,
-      c .before .out2 .given ∙ l .inv .5,
-    )
+loop-again c = (omega arith, omega arith, omega arith)
 
-same-length-7 : tie.Need-same-length-7 Inv-loop μ-loop
-same-length-7 c = search needs
+same-length-4 : tie.Need-same-length-4 Inv-loop μ-loop
+same-length-4 c = search needs
 
-same-length-8 : tie.Need-same-length-8 Inv-loop μ-loop
-same-length-8 c = search needs
+same-length-5 : tie.Need-same-length-5 Inv-loop μ-loop
+same-length-5 c = search needs
 
-same-length-9 : tie.Need-same-length-9 Inv-loop μ-loop
-same-length-9 c = search needs
-
-same-length-10 : tie.Need-same-length-10 Inv-loop μ-loop
-same-length-10 c = search needs
-
-same-length-11 : tie.Need-same-length-11 Inv-loop μ-loop
-same-length-11 c = search needs
-
-same-length-12 : tie.Need-same-length-12 Inv-loop μ-loop
-same-length-12 c = search needs
+same-length-6 : tie.Need-same-length-6 Inv-loop μ-loop
+same-length-6 c = search needs
 
 returns-2 : tie.Need-returns-2 Inv-loop μ-loop
 returns-2 c = search needs
@@ -114,9 +80,6 @@ read-all-spec =
     same-length
     same-length-2
     same-length-3
-    same-length-4
-    same-length-5
-    same-length-6
     returns
     slice-reshare-prefix-lines
     slice-aggregate-lines
@@ -124,10 +87,7 @@ read-all-spec =
     sub-turns
     loop-less
     loop-again
-    same-length-7
-    same-length-8
-    same-length-9
-    same-length-10
-    same-length-11
-    same-length-12
+    same-length-4
+    same-length-5
+    same-length-6
     returns-2)
