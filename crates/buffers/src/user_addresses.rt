@@ -1,4 +1,5 @@
 // User addresses: whether they can be told, and whether the stored ones are those.
+use geometry::Adus;
 ghost use mathlib.Core.Bool.{true};
 ghost use mathlib.Core.Path.{_≡_};
 ghost use Prim.Native.Nat.{_+_, _≤_};
@@ -9,12 +10,12 @@ ghost use Rattle.rules.specs.Questions.{userAddressesFit};
 pub const ALL_ONES: u64 = 0xffff_ffff_ffff_ffff;
 
 // 8. No LBA passes 2^40 - 1 and no user address is all ones, unless the start is.
-pub fn user_addresses_fit(start: u64, count: u64) -> bool
-    requires { ⌜ (1 ≤ count) × (count ≤ 256) ⌝ }
-    ensures { λ r. ⌜ r ≡ userAddressesFit start count ⌝ }
+pub fn user_addresses_fit(start: u64, count: Adus) -> bool
+    requires { ⌜ (1 ≤ count .0) × (count .0 ≤ 256) ⌝ }
+    ensures { λ r. ⌜ r ≡ userAddressesFit start (count .0) ⌝ }
 {
     let lba = start % 0x100_0000_0000;
-    (start == ALL_ONES) | ((lba + count <= 0x100_0000_0000) & (start <= ALL_ONES - count))
+    (start == ALL_ONES) | ((lba + count.0 <= 0x100_0000_0000) & (start <= ALL_ONES - count.0))
 }
 
 // What ADU i carries, or would if it came next.

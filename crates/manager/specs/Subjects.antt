@@ -3,7 +3,7 @@ use Prim.Native.Nat.{ℕ}
 use mathlib.Core.Bool.{Bool, true, false, cond}
 use lib.Dec.{eqb}
 use Rattle.geometry.specs.Address.{fieldsOf}
-use Rattle.geometry.specs.Shape.{adusPerBlock, withinLimits}
+use Rattle.geometry.specs.Shape.{adus, adusPerBlock, withinLimits}
 use Rattle.geometry.specs.declared.shape.Config.{Config}
 use Rattle.manager.specs.declared.subjects.Beginning.{Beginning}
 use Rattle.model.specs.declared.command.Command.{Command}
@@ -24,7 +24,7 @@ subjectWith c d placing number choosing lists which = record {
   choosing = choosing;
   listing = lists;
   listed = which;
-  capacity = cond (withinLimits c) (adusPerBlock c .0) 0;
+  capacity = adus (cond (withinLimits c) (adusPerBlock c .0) 0);
   period = c .period;
   rated = c .rated;
 }

@@ -27,7 +27,7 @@ fn plain(config: Config, domain: u64) -> Subject
         choosing: false,
         listing: false,
         listed: Listed::Open,
-        capacity: capacity.0,
+        capacity,
         period: config.period,
         rated: config.rated,
     }
@@ -64,7 +64,7 @@ fn listing(config: Config, domain: u64, listed: Listed) -> Subject
         choosing: false,
         listing: true,
         listed,
-        capacity: capacity.0,
+        capacity,
         period: config.period,
         rated: config.rated,
     }

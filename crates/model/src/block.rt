@@ -32,15 +32,15 @@ pub struct Block {
 }
 
 // The written count with so many ADUs more, at most the capacity; the sum could wrap.
-fn filled_to(written: u64, count: u64, capacity: u64) -> u64
-    ensures { λ r. ⌜ r ≡ min (written + count) capacity ⌝ }
+fn filled_to(written: Adus, count: Adus, capacity: Adus) -> Adus
+    ensures { λ r. ⌜ r .0 ≡ min (written .0 + count .0) (capacity .0) ⌝ }
 {
-    if capacity <= written {
+    if capacity.0 <= written.0 {
         return capacity;
     }
-    let room = capacity - written;
-    if count < room {
-        written + count
+    let room = capacity.0 - written.0;
+    if count.0 < room {
+        Adus(written.0 + count.0)
     } else {
         capacity
     }
@@ -90,10 +90,10 @@ impl Block {
         match state {
             State::Open(_) => {
                 let mut block = self;
-                let filled = filled_to(self.written.0, count.0, capacity.0);
-                let written = Adus(filled);
+                let before = self.written;
+                let written = filled_to(before, count, capacity);
                 block.written = written;
-                if filled < capacity.0 {
+                if written.0 < capacity.0 {
                     block
                 } else {
                     block.closed()

@@ -74,7 +74,7 @@ fn placement_state(sight: Sight, domain: u64, start: u64, count: Adus) -> Verdic
     let config = sight.config;
     let new = blocks_for(config, without(count, room_in(sight)));
     let opens = may_open_for(sight);
-    ask(user_addresses_fit(start, count.0), Refusal::UserAddress).and(opens, Refusal::OpenLimit)
+    ask(user_addresses_fit(start, count), Refusal::UserAddress).and(opens, Refusal::OpenLimit)
         .then(new_blocks_verdict(sight, domain, new as u32, new))
 }
 

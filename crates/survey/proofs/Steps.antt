@@ -31,7 +31,7 @@ use Rattle.survey.specs.declared.scan.Subject.{Subject}
 -- The subject has what the tests need of the table's configuration.
 pub record About (t : Table) (s : Subject) : Type 0 where
   pub same-period : s .period ≡ t .config .period
-  pub same-capacity : s .capacity ≡ adusPerBlock (t .config) .0
+  pub same-capacity : s .capacity ≡ adusPerBlock (t .config)
 
 -- The blocks at a place.
 abbrev pub atPlace : Table → ℕ → ℕ → Bool

@@ -69,7 +69,7 @@ open-held s n at b r way ok m after e owned is t =
     let t1 : OpenTested s n (domainIndex h) b (r .placements) way ok m1 after = rw (← is) t in
     record {
       entries = t1 .entries ∙ length-set m (domainIndex h) _;
-      tells = t1 .tells ∙ sym (rw (owned, here, e) (swap (ltb (b .written .0) (s .capacity) && between 1 (s .period) (b .left)) (wayBelow (r .placements) way)
+      tells = t1 .tells ∙ sym (rw (owned, here, e) (swap (ltb (b .written .0) (s .capacity .0) && between 1 (s .period) (b .left)) (wayBelow (r .placements) way)
           (placeFree (raised (16 + domainIndex h) m1) (wayPlace h way))));
       noted = λ f. t1 .taken f ∙ sym (rw (here, e));
     }
@@ -91,7 +91,7 @@ pub closed-held : (s : Subject) (n at : ℕ) (b : Block) (r : Domain) (way : Way
 unfolding blockSound placeOf
 closed-held s n at b r way ok m e owned is t = rw is (record {
   entries = length-set m (domainIndex (b .holder)) _;
-  tells = t ∙ sym (rw (owned, e) (swap (leb (b .written .0) (s .capacity) && eqb (b .left) 0) (wayBelow (r .placements) way)));
+  tells = t ∙ sym (rw (owned, e) (swap (leb (b .written .0) (s .capacity .0) && eqb (b .left) 0) (wayBelow (r .placements) way)));
   noted = λ f. sym (rw e);
 })
   where
@@ -111,7 +111,7 @@ unowned s n b r m after long e = record { entries = long; tells = sym (rw e); no
 
 -- How full it is and how long it stays open: as it should be, ..
 pub open-right : (s : Subject) (n at : ℕ) (b : Block) (placements : ℕ) (way : Way) (ok : Bool) (m after : List ℕ)
-    → ltb (b .written .0) (s .capacity) && between 1 (s .period) (b .left) ≡ true → WayTaken placements (b .holder) way n ok (raised (16 + at) m) after
+    → ltb (b .written .0) (s .capacity .0) && between 1 (s .period) (b .left) ≡ true → WayTaken placements (b .holder) way n ok (raised (16 + at) m) after
     → OpenTested s n at b placements way ok m after
 open-right s n at b placements way ok m after e t = record {
   entries = t .entries ∙ length-set m (16 + at) _;
@@ -121,7 +121,7 @@ open-right s n at b placements way ok m after e t = record {
 
 -- .. or not.
 pub open-wrong : (s : Subject) (n at : ℕ) (b : Block) (placements : ℕ) (way : Way) (m : List ℕ)
-    → ltb (b .written .0) (s .capacity) && between 1 (s .period) (b .left) ≡ false → OpenTested s n at b placements way false m m
+    → ltb (b .written .0) (s .capacity .0) && between 1 (s .period) (b .left) ≡ false → OpenTested s n at b placements way false m m
 open-wrong s n at b placements way m e = record { entries = refl; tells = sym (rw e); taken = λ f. absurd (true≢false (sym f)) }
 
 -- ---- A block is scanned

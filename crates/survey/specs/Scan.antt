@@ -20,7 +20,7 @@ use Rattle.survey.specs.declared.scan.Subject.{Subject}
 
 -- The clauses of a block, with the record of its holder.
 abbrev pub isSoundIn : Subject → Block → Domain → Bool
-isSoundIn s b r = blockSound (s .capacity) (s .period) r b
+isSoundIn s b r = blockSound (s .capacity .0) (s .period) r b
 
 -- No block is open at the place of this one; 256 is no place.
 abbrev pub placeFree : List ℕ → ℕ → Bool
@@ -43,13 +43,13 @@ pub record WayTaken (placements holder : ℕ) (way : Way) (n : ℕ) (ok : Bool) 
 pub record OpenTested (s : Subject) (n at : ℕ) (b : Block) (placements : ℕ) (way : Way) (ok : Bool) (before after : List ℕ) : Type 0 where
   pub entries : length after ≡ length before
   pub tells : ok
-      ≡ cond (ltb (b .written .0) (s .capacity) && between 1 (s .period) (b .left))
+      ≡ cond (ltb (b .written .0) (s .capacity .0) && between 1 (s .period) (b .left))
       (wayBelow placements way && placeFree (raised (16 + at) before) (wayPlace (b .holder) way))
       false
   pub taken : ok ≡ true → after ≡ placeSet (wayPlace (b .holder) way) n (raised (16 + at) before)
 
 abbrev pub closedTested : Subject → Block → ℕ → Way → Bool
-closedTested s b placements way = cond (leb (b .written .0) (s .capacity) && eqb (b .left) 0) (wayBelow placements way) false
+closedTested s b placements way = cond (leb (b .written .0) (s .capacity .0) && eqb (b .left) 0) (wayBelow placements way) false
 
 -- The marks with one block more, which a domain holds.
 abbrev pub openRaised : Block → List ℕ → List ℕ

@@ -82,7 +82,7 @@ pub record SeesList (t : Table) (d : ℕ) (which : Listed) (x : Sight) (marks : 
 -- The subject has what the scan needs of the table's configuration.
 pub record SubjectOf (t : Table) (s : Subject) : Type 0 where
   pub same-period : s .period ≡ t .config .period
-  pub same-capacity : withinLimits (t .config) ≡ true → s .capacity ≡ adusPerBlock (t .config) .0
+  pub same-capacity : withinLimits (t .config) ≡ true → s .capacity ≡ adusPerBlock (t .config)
   pub same-rated : s .rated ≡ t .config .rated
 
 -- What the scan of the domains has found before the first, with one domain more, and after n of them.

@@ -1,4 +1,5 @@
 // The clauses of soundness, of one block and of one domain, and what two blocks may not share.
+use geometry::Adus;
 use model::Block;
 use model::Domain;
 use model::Way;
@@ -57,18 +58,18 @@ pub(crate) fn is_clear(block: Block) -> bool
 }
 
 // Of an open block, how full it is and how long it stays open.
-pub(crate) fn open_kept(capacity: u64, period: u64, block: Block) -> bool
-    ensures { λ r. ⌜ r ≡ ltb (block .written .0) capacity && between 1 period (block .left) ⌝ }
+pub(crate) fn open_kept(capacity: Adus, period: u64, block: Block) -> bool
+    ensures { λ r. ⌜ r ≡ ltb (block .written .0) (capacity .0) && between 1 period (block .left) ⌝ }
 {
     let left = block.left as u64;
-    (block.written.0 < capacity) & ((1 <= left) & (left <= period))
+    (block.written.0 < capacity.0) & ((1 <= left) & (left <= period))
 }
 
 // Of a Closed block, the same.
-pub(crate) fn closed_kept(capacity: u64, block: Block) -> bool
-    ensures { λ r. ⌜ r ≡ leb (block .written .0) capacity && eqb (block .left) 0 ⌝ }
+pub(crate) fn closed_kept(capacity: Adus, block: Block) -> bool
+    ensures { λ r. ⌜ r ≡ leb (block .written .0) (capacity .0) && eqb (block .left) 0 ⌝ }
 {
-    if capacity < block.written.0 {
+    if capacity.0 < block.written.0 {
         return false;
     }
     block.left == 0

@@ -12,6 +12,7 @@ use crate::marks::count_held;
 use crate::marks::count_open;
 use crate::marks::link_block;
 use crate::marks::take_place;
+use geometry::Adus;
 use model::Block;
 use model::Domain;
 use model::Listed;
@@ -39,7 +40,7 @@ pub struct Subject {
     pub listing: bool,
     pub listed: Listed,
     // what the scan needs of the drive's configuration
-    pub capacity: u64,
+    pub capacity: Adus,
     pub period: u64,
     pub rated: u64,
 }
@@ -86,7 +87,8 @@ fn test_open(
     requires { ⌜ (n < 256) × (at < 16) × (length (now marks) ≡ markCount) ⌝ }
     ensures { λ r. ⌜ OpenTested subject n at block placements way r (now (marks .entry)) (now (marks .exit)) ⌝ }
 {
-    if open_kept(subject.capacity, subject.period, block) {
+    let capacity = subject.capacity;
+    if open_kept(capacity, subject.period, block) {
         count_open(marks, at);
         return take_way(placements, block.holder, way, n, marks);
     }
@@ -97,7 +99,8 @@ fn test_open(
 fn test_closed(subject: Subject, block: Block, placements: u8, way: Way) -> bool
     ensures { λ r. ⌜ r ≡ closedTested subject block placements way ⌝ }
 {
-    if closed_kept(subject.capacity, block) {
+    let capacity = subject.capacity;
+    if closed_kept(capacity, block) {
         return way_below(placements as u32, way);
     }
     false

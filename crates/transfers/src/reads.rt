@@ -71,7 +71,7 @@ fn read_state(
     let capacity = adus_per_block(config);
     let own = is_held(b, domain) & (address.domain == domain);
     let ends = ends_within(offset, count, written) & ends_within(offset, count, capacity);
-    ask(user_addresses_fit(expected, count.0), Refusal::UserAddress).and(own, Refusal::Holder)
+    ask(user_addresses_fit(expected, count), Refusal::UserAddress).and(own, Refusal::Holder)
         .and(ends, Refusal::Extent)
 }
 

@@ -124,7 +124,7 @@ fn write_state(sight: Sight, domain: u64, start: u64, count: Adus) -> Verdict
     let b = sight.block;
     let written = b.written;
     let capacity = adus_per_block(config);
-    ask(user_addresses_fit(start, count.0), Refusal::UserAddress).and(
+    ask(user_addresses_fit(start, count), Refusal::UserAddress).and(
             is_held(b, domain),
             Refusal::Holder,
         )

@@ -12,7 +12,7 @@ sub-result : tie.Need-sub-result
 sub-result c = search needs
 
 returns : tie.Need-returns
-returns c = fit-sums (c .args .start) (c .args .count) (omega arith) (omega arith) (omega arith)
+returns c = let z = c .before .before in fit-sums (z .args .start) (z .args .count .0) (omega (arith, z .pre)) (omega (arith, z .pre)) (omega (arith, z .pre))
 
 pub user-addresses-fit-spec : {M : Type 1} → statement M
 user-addresses-fit-spec = tie.close (tie.spec add-result sub-result returns)

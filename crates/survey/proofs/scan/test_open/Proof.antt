@@ -3,11 +3,6 @@ use Rattle.survey.proofs.Testing.{open-right, open-wrong}
 use borrow.Author.Needs.{needs}
 use Rattle.survey.proofs.scan.test_open.Statement.{statement}
 use Rattle.survey.proofs.scan.test_open.Tie as tie
-use Rattle.survey.proofs.scan.test_open.Reads as reads
-use Rattle.survey.proofs.scan.test_open.Lts as lts
-use Rattle.survey.proofs.clauses.open_kept.Reads as open-kept-reads
-use Rattle.survey.proofs.marks.count_open.Reads as count-open-reads
-use Rattle.survey.proofs.scan.take_way.Reads as take-way-reads
 
 open-kept-requires : tie.Need-open-kept-requires
 open-kept-requires c κs = search needs
@@ -22,10 +17,10 @@ same-length : tie.Need-same-length
 same-length c = search needs
 
 returns : tie.Need-returns
-returns c = let z = c .before .before .before .before .before .before .before .before .before .before .before in let a = z .args in open-right (a .subject) (a .n) (a .at) (a .block) (a .placements) (a .way) _ (a .marks .now) _ (sym (c .before .before .before .before .before .before .before .before .before .open-kept .ensures) ∙ c .before .before .before .before .before .before .before .before .if1 .taken) (rw (c .before .before .before .before .before .before .count-open .ensures) at (c .before .before .take-way .ensures))
+returns c = let z = c .before .before .before .before .before .before .before .before .before .before .before .before in let a = z .args in open-right (a .subject) (a .n) (a .at) (a .block) (a .placements) (a .way) _ (a .marks .now) _ (sym (c .before .before .before .before .before .before .before .before .before .open-kept .ensures) ∙ c .before .before .before .before .before .before .before .before .if1 .taken) (rw (c .before .before .before .before .before .before .count-open .ensures) at (c .before .before .take-way .ensures))
 
 returns-2 : tie.Need-returns-2
-returns-2 c = let z = c .before .before .before in let a = z .args in open-wrong (a .subject) (a .n) (a .at) (a .block) (a .placements) (a .way) (a .marks .now) (sym (c .before .open-kept .ensures) ∙ c .if1 .left)
+returns-2 c = let z = c .before .before .before .before in let a = z .args in open-wrong (a .subject) (a .n) (a .at) (a .block) (a .placements) (a .way) (a .marks .now) (sym (c .before .open-kept .ensures) ∙ c .if1 .left)
 
 pub test-open-spec : {M : Type 1} → statement M
 test-open-spec =

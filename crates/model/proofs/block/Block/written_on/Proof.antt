@@ -22,11 +22,11 @@ enum-told-3 c = search needs
 
 returns : tie.Need-returns
 unfolding writtenOn
-returns c = simp (c .before .before .before .enum-told .given .1, sym (c .before .before .filled-to .ensures), lt-ltb _ _ (c .if1 .taken))
+returns c = rw (c .before .before .before .before .before .enum-told .given .1, sym (c .before .before .before .filled-to .ensures), lt-ltb _ _ (c .if1 .taken))
 
 returns-2 : tie.Need-returns-2
 unfolding writtenOn
-returns-2 c = simp (c .closed .ensures, c .before .before .before .before .enum-told .given .1, sym (c .before .before .before .filled-to .ensures), le-ltb _ _ (c .before .if1 .left))
+returns-2 c = simp (c .closed .ensures, c .before .before .before .before .before .before .enum-told .given .1, sym (c .before .before .before .before .filled-to .ensures), le-ltb _ _ (c .before .if1 .left))
 
 returns-3 : tie.Need-returns-3
 unfolding writtenOn
