@@ -1,9 +1,11 @@
 -- What a command's outcome comes to in a table that is seen so: a refusal, or a change of the table.
 use Prim.Native.Nat.{ℕ}
-use mathlib.Core.Bool.{true, false}
-use mathlib.Core.List.{List, []}
-use mathlib.Core.Path.{_≡_, sym, ap, _∙_}
-use Rattle.geometry.specs.Questions.{firstNo, success}
+use mathlib.Core.Bool.{Bool, true, false}
+use mathlib.Core.List.{List, [], _∷_, _++_}
+use mathlib.Core.Path.{_≡_, refl, sym, ap, _∙_}
+use lib.ListN.{length}
+use Rattle.geometry.specs.Questions.{Question, ask, firstNo, success}
+use Rattle.geometry.specs.Shape.{withinLimits}
 use Rattle.model.specs.Answers.{numberOf, outcomeOf}
 use Rattle.model.specs.declared.answer.Answer.{Answer}
 use Rattle.model.specs.declared.answer.Answer.the-variants.{Refused}
@@ -11,14 +13,16 @@ use Rattle.model.specs.declared.answer.Refusal.{Refusal}
 use Rattle.model.specs.declared.answer.Refusal.the-variants.{Unsound}
 use Rattle.model.specs.declared.command.Command.{Command}
 use Rattle.model.specs.declared.table.Table.{Table}
-use Rattle.rules.proofs.Questions.{after}
-use Rattle.rules.specs.Calls.{calling, profile}
-use Rattle.rules.specs.Effects.{Fills, changing, effect, questions}
+use Rattle.rules.proofs.Questions.{after, answerIn}
+use Rattle.rules.specs.Calls.{calling, domainOf, lending, profile}
+use Rattle.rules.specs.Effects.{Fills, changing, effect, questions, verdict}
+use Rattle.rules.specs.Questions.{domainQuestions, firstQuestions, laterQuestions, storeQuestions}
 use Rattle.rules.specs.Soundness.{sound}
-use Rattle.survey.proofs.Seeing.{changed-nothing}
+use Rattle.survey.proofs.Seeing.{changed-nothing, limits-seen}
+use Rattle.survey.specs.First.{firstAsked}
 use Rattle.survey.specs.Sight.{Sees}
 use Rattle.survey.specs.declared.sight.Sight.{Sight}
-use Rattle.tables.proofs.Answering.{later-no, table-call, unsound-call}
+use Rattle.tables.proofs.Answering.{first-refused, first-yes, later-no, table-call, then-changed, then-refused, then-verdict, unsound-call}
 use Rattle.tables.specs.Changing.{changedBy, leaving, outcomeServed}
 use Rattle.tables.specs.Serving.{ServesCommand, answering, drive, served}
 use Rattle.tables.specs.declared.change.Change.{Change}
@@ -50,3 +54,65 @@ pub changed-outcome : (t : Table) (d : ℕ) (x : Sight) (c : Command) (answer : 
     → ServesCommand t c store words bytes (served (outcomeServed t (record { answer = answer; change = change })) store words bytes)
 changed-outcome t d x c answer change left values store words bytes s e q becomes does says bytes-are =
     rw becomes (table-call (drive t store) (calling c store words bytes) words bytes values answer left (sym (s .tested) ∙ e) q does says bytes-are)
+
+-- ---- As new
+
+-- The first questions of a call ask for no more than the entries of the store.
+same-store : (uses : Bool) (t : Table) (c : Command) (entries words bytes : ℕ)
+    → storeQuestions uses t (lending c entries 0 0) ≡ storeQuestions uses t (lending c entries words bytes)
+same-store true t c entries words bytes = refl
+same-store false t c entries words bytes = refl
+
+first-asked : (t : Table) (c : Command) (store words bytes : List ℕ)
+    → firstNo (firstAsked t c (length store)) ≡ firstNo (firstQuestions (drive t store) (calling c store words bytes))
+first-asked t c store words bytes =
+    ap (λ (qs : List Question). firstNo (ask 2 (sound t) ∷ qs ++ domainQuestions t (profile c .own)))
+    (same-store (profile c .store) t c (length store) (length words) (length bytes))
+
+-- So where they are answered yes the first no is that of the later ones.
+pub begun-verdict : (t : Table) (c : Command) (store words bytes : List ℕ) → firstNo (firstAsked t c (length store)) ≡ 0
+    → verdict (drive t store) (calling c store words bytes) ≡ firstNo (laterQuestions c (drive t store) (calling c store words bytes))
+begun-verdict t c store words bytes first =
+    then-verdict (drive t store) (calling c store words bytes) (sym (first-asked t c store words bytes) ∙ first)
+
+-- One of the first questions is answered no, ..
+pub first-outcome : (t : Table) (c : Command) (r : Outcome) (reason : Refusal) (store words bytes : List ℕ)
+    → numberOf reason ≡ firstNo (firstAsked t c (length store)) → r ≡ leaving (Refused reason)
+    → ServesCommand t c store words bytes (served (outcomeServed t r) store words bytes)
+first-outcome t c r reason store words bytes q f =
+    rw (f, changed-nothing t) (first-refused (drive t store) (calling c store words bytes) words bytes reason (q ∙ first-asked t c store words bytes))
+
+-- .. or a later one is, ..
+pub then-outcome : (t : Table) (c : Command) (r : Outcome) (reason : Refusal) (store words bytes : List ℕ)
+    → firstNo (firstAsked t c (length store)) ≡ 0
+    → numberOf reason ≡ firstNo (laterQuestions c (drive t store) (calling c store words bytes)) → r ≡ leaving (Refused reason)
+    → ServesCommand t c store words bytes (served (outcomeServed t r) store words bytes)
+then-outcome t c r reason store words bytes first q f =
+    rw (f, changed-nothing t) (then-refused (drive t store) (calling c store words bytes) words bytes reason (sym (first-asked t c store words bytes) ∙ first) q)
+
+-- .. or all are answered yes, and the table is changed.
+pub change-outcome : (t : Table) (c : Command) (answer : Answer) (change : Change) (left : Table) (values store words bytes : List ℕ)
+    → firstNo (firstAsked t c (length store)) ≡ 0
+    → firstNo (laterQuestions c (drive t store) (calling c store words bytes)) ≡ 0
+    → changedBy change t ≡ left → effect (drive t store) (calling c store words bytes) ≡ changing values left (drive t store)
+    → outcomeOf answer ≡ success values
+    → Fills (profile c .bytes) t []
+    → ServesCommand t c store words bytes (served (outcomeServed t (record { answer = answer; change = change })) store words bytes)
+change-outcome t c answer change left values store words bytes first q becomes does says bytes-are =
+    rw becomes
+    (then-changed (drive t store) (calling c store words bytes) words bytes values answer left (sym (first-asked t c store words bytes) ∙ first) q does says bytes-are)
+
+-- ---- What a command may count on that has begun
+
+-- Each of its first questions is answered yes, ..
+pub begun-yes : (n : ℕ) (t : Table) (c : Command) (entries : ℕ) → firstNo (firstAsked t c entries) ≡ 0 → answerIn n (firstAsked t c entries) ≡ true
+begun-yes n t c entries e = first-yes n (drive t []) (lending c entries 0 0) e
+
+-- .. so that the table is sound, ..
+pub begun-sound : (t : Table) (c : Command) (entries : ℕ) (x : Sight) → Sees t (domainOf (profile c .own)) x → firstNo (firstAsked t c entries) ≡ 0 → x .sound ≡ true
+begun-sound t c entries x s e = s .tested ∙ begun-yes 2 t c entries e
+
+-- .. and within the limits.
+pub begun-limits : (t : Table) (c : Command) (entries : ℕ) (x : Sight) → Sees t (domainOf (profile c .own)) x → firstNo (firstAsked t c entries) ≡ 0
+    → withinLimits (x .config) ≡ true
+begun-limits t c entries x s e = limits-seen t (domainOf (profile c .own)) x s (begun-sound t c entries x s e)
