@@ -19,8 +19,8 @@ use Rattle.rules.specs.Effects.{Fills, changing, effect, questions, verdict}
 use Rattle.rules.specs.Questions.{domainQuestions, firstQuestions, laterQuestions, storeQuestions}
 use Rattle.rules.specs.Soundness.{sound}
 use Rattle.survey.proofs.Seeing.{changed-nothing, limits-seen}
-use Rattle.survey.specs.First.{firstAsked}
-use Rattle.survey.specs.Sight.{Sees}
+use Rattle.survey.specs.First.{Begins, Begun, firstAsked}
+use Rattle.survey.specs.Sight.{Seen, Sees}
 use Rattle.survey.specs.declared.sight.Sight.{Sight}
 use Rattle.tables.proofs.Answering.{first-refused, first-yes, later-no, table-call, then-changed, then-refused, then-verdict, unsound-call}
 use Rattle.tables.specs.Changing.{changedBy, leaving, outcomeServed}
@@ -70,7 +70,7 @@ first-asked t c store words bytes =
     (same-store (profile c .store) t c (length store) (length words) (length bytes))
 
 -- So where they are answered yes the first no is that of the later ones.
-pub begun-verdict : (t : Table) (c : Command) (store words bytes : List ℕ) → firstNo (firstAsked t c (length store)) ≡ 0
+pub begun-verdict : (t : Table) (c : Command) (store words bytes : List ℕ) → Begins t c (length store)
     → verdict (drive t store) (calling c store words bytes) ≡ firstNo (laterQuestions c (drive t store) (calling c store words bytes))
 begun-verdict t c store words bytes first =
     then-verdict (drive t store) (calling c store words bytes) (sym (first-asked t c store words bytes) ∙ first)
@@ -84,7 +84,7 @@ first-outcome t c r reason store words bytes q f =
 
 -- .. or a later one is, ..
 pub then-outcome : (t : Table) (c : Command) (r : Outcome) (reason : Refusal) (store words bytes : List ℕ)
-    → firstNo (firstAsked t c (length store)) ≡ 0
+    → Begins t c (length store)
     → numberOf reason ≡ firstNo (laterQuestions c (drive t store) (calling c store words bytes)) → r ≡ leaving (Refused reason)
     → ServesCommand t c store words bytes (served (outcomeServed t r) store words bytes)
 then-outcome t c r reason store words bytes first q f =
@@ -92,7 +92,7 @@ then-outcome t c r reason store words bytes first q f =
 
 -- .. or all are answered yes, and the table is changed.
 pub change-outcome : (t : Table) (c : Command) (answer : Answer) (change : Change) (left : Table) (values store words bytes : List ℕ)
-    → firstNo (firstAsked t c (length store)) ≡ 0
+    → Begins t c (length store)
     → firstNo (laterQuestions c (drive t store) (calling c store words bytes)) ≡ 0
     → changedBy change t ≡ left → effect (drive t store) (calling c store words bytes) ≡ changing values left (drive t store)
     → outcomeOf answer ≡ success values
@@ -105,14 +105,15 @@ change-outcome t c answer change left values store words bytes first q becomes d
 -- ---- What a command may count on that has begun
 
 -- Each of its first questions is answered yes, ..
-pub begun-yes : (n : ℕ) (t : Table) (c : Command) (entries : ℕ) → firstNo (firstAsked t c entries) ≡ 0 → answerIn n (firstAsked t c entries) ≡ true
+pub begun-yes : (n : ℕ) (t : Table) (c : Command) (entries : ℕ) → Begins t c entries → answerIn n (firstAsked t c entries) ≡ true
 begun-yes n t c entries e = first-yes n (drive t []) (lending c entries 0 0) e
 
--- .. so that the table is sound, ..
-pub begun-sound : (t : Table) (c : Command) (entries : ℕ) (x : Sight) → Sees t (domainOf (profile c .own)) x → firstNo (firstAsked t c entries) ≡ 0 → x .sound ≡ true
-begun-sound t c entries x s e = s .tested ∙ begun-yes 2 t c entries e
+-- .. so that what is seen is sound, ..
+pub begun-sound : (c : Command) (entries : ℕ) (x : Sight) → Seen (domainOf (profile c .own)) x → Begun c entries x → x .sound ≡ true
+begun-sound c entries x seen begun = seen .1 .tested ∙ begun-yes 2 (seen .0) c entries (begun (seen .0) (seen .1))
 
 -- .. and within the limits.
-pub begun-limits : (t : Table) (c : Command) (entries : ℕ) (x : Sight) → Sees t (domainOf (profile c .own)) x → firstNo (firstAsked t c entries) ≡ 0
+pub begun-limits : (c : Command) (entries : ℕ) (x : Sight) → Seen (domainOf (profile c .own)) x → Begun c entries x
     → withinLimits (x .config) ≡ true
-begun-limits t c entries x s e = limits-seen t (domainOf (profile c .own)) x s (begun-sound t c entries x s e)
+begun-limits c entries x seen begun =
+    limits-seen (seen .0) (domainOf (profile c .own)) x (seen .1) (begun-sound c entries x seen begun)

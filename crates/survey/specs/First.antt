@@ -20,9 +20,13 @@ use Rattle.tables.specs.Serving.{drive}
 abbrev pub firstAsked : Table → Command → ℕ → List Question
 firstAsked t c entries = firstQuestions (drive t []) (rules.lending c entries 0 0)
 
--- They are answered yes, of every table that is seen so. A command that does not use the store may count on them with any number of entries.
+-- They are answered yes, ..
+abbrev pub Begins : Table → Command → ℕ → Type 0
+Begins t c entries = firstNo (firstAsked t c entries) ≡ 0
+
+-- .. of every table that is seen so. Of a command that does not use the store they are the same for any number of entries.
 abbrev pub Begun : Command → ℕ → Sight → Type 0
-Begun c entries x = (t : Table) → Sees t (rules.domainOf (rules.profile c .own)) x → firstNo (firstAsked t c entries) ≡ 0
+Begun c entries x = (t : Table) → Sees t (rules.domainOf (rules.profile c .own)) x → Begins t c entries
 
 -- ---- What a command names and uses, as the code has it
 
