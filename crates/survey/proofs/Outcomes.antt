@@ -2,10 +2,12 @@
 use Prim.Native.Nat.{ℕ}
 use mathlib.Core.Bool.{Bool, true, false}
 use mathlib.Core.List.{List, [], _∷_, _++_}
-use mathlib.Core.Path.{_≡_, refl, sym, ap, _∙_}
+use mathlib.Core.Path.{_≡_, refl, sym, ap, subst, _∙_}
 use lib.ListN.{length}
+use borrow.Author.Tests.{eqb-true}
 use Rattle.geometry.specs.Questions.{Question, ask, firstNo, success}
-use Rattle.geometry.specs.Shape.{withinLimits}
+use Rattle.geometry.specs.Shape.{storeLength, withinLimits}
+use Rattle.geometry.specs.declared.shape.Config.{Config}
 use Rattle.model.specs.Answers.{numberOf, outcomeOf}
 use Rattle.model.specs.declared.answer.Answer.{Answer}
 use Rattle.model.specs.declared.answer.Answer.the-variants.{Refused}
@@ -16,7 +18,7 @@ use Rattle.model.specs.declared.table.Table.{Table}
 use Rattle.rules.proofs.Questions.{after, answerIn}
 use Rattle.rules.specs.Calls.{calling, domainOf, lending, profile}
 use Rattle.rules.specs.Effects.{Fills, changing, effect, questions, verdict}
-use Rattle.rules.specs.Questions.{domainQuestions, firstQuestions, laterQuestions, storeQuestions}
+use Rattle.rules.specs.Questions.{domainQuestions, firstQuestions, laterQuestions, storeFits, storeQuestions}
 use Rattle.rules.specs.Soundness.{sound}
 use Rattle.survey.proofs.Seeing.{changed-nothing, limits-seen}
 use Rattle.survey.specs.First.{Begins, Begun, firstAsked}
@@ -117,3 +119,14 @@ pub begun-limits : (c : Command) (entries : ℕ) (x : Sight) → Seen (domainOf 
     → withinLimits (x .config) ≡ true
 begun-limits c entries x seen begun =
     limits-seen (seen .0) (domainOf (profile c .own)) x (seen .1) (begun-sound c entries x seen begun)
+
+-- The store that it uses has all its entries.
+pub begun-entries : (c : Command) (entries : ℕ) (x : Sight) → profile c .store ≡ true → Seen (domainOf (profile c .own)) x → Begun c entries x
+    → entries ≡ storeLength (x .config) .0
+begun-entries c entries x uses seen begun =
+    let t = seen .0 in
+    let k = lending c entries 0 0 in
+    let fits : storeFits t k ≡ true =
+    subst (λ (b : Bool). answerIn 3 (ask 2 (sound t) ∷ storeQuestions b t k ++ domainQuestions t (profile c .own)) ≡ true) uses
+    (begun-yes 3 t c entries (begun t (seen .1))) in
+    eqb-true entries (storeLength (t .config) .0) fits ∙ ap (λ (z : Config). storeLength z .0) (sym (seen .1 .same-config))
