@@ -46,8 +46,10 @@ fn erase_block_verdict(sight: Sight, domain: u64, block: u64) -> Verdict
     let b = sight.block;
     let any = block == ANY_BLOCK;
     let own = is_held(b, domain);
-    ask((block < sight.config.blocks) | any, Refusal::Range)
-        .and(any | is_free(b) | own, Refusal::Holder)
+    ask((block < sight.config.blocks) | any, Refusal::Range).and(
+            any | is_free(b) | own,
+            Refusal::Holder,
+        )
         .and(any | !own | is_closed(b), Refusal::BlockState)
 }
 
