@@ -1,12 +1,13 @@
 -- What Erase is asked, the block that it opens, that it may, and what it then hands back.
 use Prim.Native.Nat.{ℕ, _+_, _<_}
 use mathlib.Core.Bool.{true, false}
-use mathlib.Core.List.{List, [], _++_}
+use mathlib.Core.List.{List, []}
 use mathlib.Core.Option.{Option, none, some}
 use mathlib.Core.Path.{_≡_, refl, sym, ap, subst, _∙_}
 use lib.Dec.{eqb}
+use lib.ListN.{length}
 use borrow.Author.Tests.{eqb-true, leb-true, ltb-true}
-use Rattle.blocks.specs.Erasing.{blockQuestions, eraseArguments, eraseState, erasedOf}
+use Rattle.blocks.specs.Erasing.{blockQuestions, eraseQuestions, erasedOf}
 use Rattle.blocks.specs.Opening.{MayOpenIn}
 use Rattle.geometry.proofs.Laws.Questions.{positive}
 use Rattle.geometry.proofs.Laws.Shape.{by-test}
@@ -24,19 +25,20 @@ use Rattle.model.specs.declared.table.Table.{Table}
 use Rattle.rules.proofs.Blocks.{Choice, choice}
 use Rattle.rules.proofs.Counting.{the-first}
 use Rattle.rules.proofs.Drive.{overwritten-nothing}
-use Rattle.rules.proofs.Questions.{after, yes-in}
+use Rattle.rules.proofs.Questions.{yes-in}
 use Rattle.rules.specs.Blocks.{anyBlock, chosenBlock, erasedBlock, openedFor}
 use Rattle.rules.specs.Calls.{calling, lending}
 use Rattle.rules.specs.Drive.{Drive, blockAt, domainAt, overwritten, size, withBlock, withDomain}
-use Rattle.rules.specs.Effects.{Effect, Serves, effect, erasing, questions}
-use Rattle.rules.specs.Questions.{isErasable}
-use Rattle.rules.specs.Soundness.{sound}
-use Rattle.survey.proofs.Seeing.{changed-nothing, changed-opening, limits-seen, sound-limits}
+use Rattle.rules.specs.Effects.{Effect, Serves, effect, erasing}
+use Rattle.rules.specs.Questions.{isErasable, laterQuestions}
+use Rattle.survey.proofs.Outcomes.{begun-yes}
+use Rattle.survey.proofs.Seeing.{changed-nothing, changed-opening, sound-limits}
+use Rattle.survey.specs.First.{Begins}
 use Rattle.survey.specs.Sight.{Sees, SeesBlock, SeesChoice, foundIn}
 use Rattle.survey.specs.declared.sight.Found.{Found}
 use Rattle.survey.specs.declared.sight.Found.the-variants as found
 use Rattle.survey.specs.declared.sight.Sight.{Sight}
-use Rattle.tables.proofs.Answering.{accepted-call, sound-verdict}
+use Rattle.tables.proofs.Answering.{accepted-call, then-verdict}
 use Rattle.tables.specs.Changing.{leaving, openingChange, outcomeServed}
 use Rattle.tables.specs.Serving.{ServesCommand, answering, drive, served}
 
@@ -44,17 +46,15 @@ use Rattle.tables.specs.Serving.{ServesCommand, answering, drive, served}
 
 -- The record that is seen is asked for no block but one that is named, and for none of another drive: the range comes first.
 pub erase-asked : (t : Table) (store : List ℕ) (entries words bytes d n : ℕ) (x : Sight) → Sees t d x → (eqb n anyBlock ≡ false → SeesBlock t n x)
-    → x .sound ≡ true → firstNo (eraseArguments x entries d n ++ eraseState t x d n)
-    ≡ firstNo (after 2 (questions (drive t store) (lending (Erase d n) entries words bytes)))
-unfolding firstNo questions eraseArguments eraseState blockQuestions
-erase-asked t store entries words bytes d n x s b e =
-    rw (s .same-domain, s .same-config) (by-test (isDomainId d)
-    (λ id. rw (s .opens e id) (by-test (eqb n anyBlock)
+    → x .sound ≡ true → isDomainId d ≡ true
+    → firstNo (eraseQuestions t x d n) ≡ firstNo (laterQuestions (Erase d n) (drive t store) (lending (Erase d n) entries words bytes))
+unfolding firstNo eraseQuestions blockQuestions
+erase-asked t store entries words bytes d n x s b e id =
+    rw (s .same-domain, s .same-config, s .opens e id) (by-test (eqb n anyBlock)
     (λ any. rw any)
     (λ other. by-test (isBlock (t .config) n)
     (λ q. rw (b other .same-block e (ltb-true n (size t) q)))
-    (λ q. rw (q, other)))))
-    (λ id. rw id))
+    (λ q. rw (q, other))))
 
 -- ---- The block
 
@@ -93,40 +93,38 @@ opens-inside t n m range e =
 -- ---- What it may and does
 
 -- The number of an accepted Erase is in range.
-pub erase-range : (t : Table) (entries d n : ℕ) (x : Sight) → Sees t d x
-    → firstNo (eraseArguments x entries d n ++ eraseState t x d n) ≡ 0 → isErasable t n ≡ true
-unfolding positive eraseArguments eraseState blockQuestions
-erase-range t entries d n x s pass = rw (s .same-config) at (yes-in 6 (eraseArguments x entries d n ++ eraseState t x d n) refl pass)
+pub erase-range : (t : Table) (d n : ℕ) (x : Sight) → Sees t d x → firstNo (eraseQuestions t x d n) ≡ 0 → isErasable t n ≡ true
+unfolding positive eraseQuestions blockQuestions
+erase-range t d n x s pass = rw (s .same-config) at (yes-in 6 (eraseQuestions t x d n) refl pass)
 
 -- Questions 3, 4, 6 and 12 of a sound table let it be opened.
-pub may-open : (t : Table) (entries d n m : ℕ) (x : Sight) → Sees t d x → x .sound ≡ true
-    → firstNo (eraseArguments x entries d n ++ eraseState t x d n) ≡ 0 → erasedBlock t n ≡ some m
+pub may-open : (t : Table) (entries d n m : ℕ) (x : Sight) → Sees t d x → Begins t (Erase d n) entries
+    → firstNo (eraseQuestions t x d n) ≡ 0 → erasedBlock t n ≡ some m
     → MayOpenIn (x .config) entries (x .domain) d m
-unfolding positive eraseArguments eraseState blockQuestions
-may-open t entries d n m x s e pass found =
-    let qs = eraseArguments x entries d n ++ eraseState t x d n in
+unfolding positive eraseQuestions blockQuestions
+may-open t entries d n m x s first pass found =
     record {
-      limits = limits-seen t d x s e;
-      id = yes-in 4 qs refl pass;
-      inside = rw (s .same-config) (opens-inside t n m (erase-range t entries d n x s pass) found);
-      entries = eqb-true entries (storeLength (x .config) .0) (yes-in 3 qs refl pass);
-      serial = rw (s .same-domain) (leb-true (domainAt t d .last + 1) 4294967295 (yes-in 12 qs refl pass));
+      limits = rw (s .same-config) (sound-limits t (begun-yes 2 t (Erase d n) entries first));
+      id = begun-yes 4 t (Erase d n) entries first;
+      inside = rw (s .same-config) (opens-inside t n m (erase-range t d n x s pass) found);
+      entries = rw (s .same-config) (eqb-true entries (storeLength (t .config) .0) (begun-yes 3 t (Erase d n) entries first));
+      serial = rw (s .same-domain) (leb-true (domainAt t d .last + 1) 4294967295 (yes-in 12 (eraseQuestions t x d n) refl pass));
     }
 
 erasing-fills : (d : ℕ) (found : Option ℕ) (v : Drive) → erasing d found v .words ≡ []
 erasing-fills d none v = refl
 erasing-fills d (some n) v = refl
 
-erased-call : (v w : Drive) (words bytes : List ℕ) (d n : ℕ) (found : Option ℕ) (answer : Answer) → sound (v .table) ≡ true
-    → firstNo (after 2 (questions v (calling (Erase d n) (v .store) words bytes))) ≡ 0
+erased-call : (v w : Drive) (words bytes : List ℕ) (d n : ℕ) (found : Option ℕ) (answer : Answer) → Begins (v .table) (Erase d n) (length (v .store))
+    → firstNo (laterQuestions (Erase d n) v (calling (Erase d n) (v .store) words bytes)) ≡ 0
     → erasedBlock (v .table) n ≡ found → outcomeOf answer ≡ success (erasing d found v .values) → w ≡ erasing d found v .drive
     → Serves v (calling (Erase d n) (v .store) words bytes) words bytes (served (answering (w .table) answer) (w .store) words bytes)
 unfolding effect
-erased-call v w words bytes d n found answer whole pass f says leaves =
+erased-call v w words bytes d n found answer first pass f says leaves =
     let call = calling (Erase d n) (v .store) words bytes in
     let does : effect v call ≡ erasing d found v = ap (λ (o : Option ℕ). erasing d o v) f in
     accepted-call v call words bytes (served (answering (w .table) answer) (w .store) words bytes) []
-    (sound-verdict v call whole ∙ pass)
+    (then-verdict v call first ∙ pass)
     (says ∙ ap (λ (x : Effect). success (x .values)) (sym does))
     (leaves ∙ ap (λ (x : Effect). x .drive) (sym does))
     (sym (overwritten-nothing words) ∙ ap (λ (filled : List ℕ). overwritten 0 filled words) (sym (ap (λ (x : Effect). x .words) does ∙ erasing-fills d found v)))
@@ -134,18 +132,18 @@ erased-call v w words bytes d n found answer whole pass f says leaves =
     (sym (overwritten-nothing bytes))
 
 -- An accepted Erase hands back the number of the block that it opens.
-pub opened-outcome : (t : Table) (store left words bytes : List ℕ) (d n m : ℕ) (b : Block) (r : Domain) → sound t ≡ true → m < size t
-    → ¬ (d ≡ 0) → firstNo (after 2 (questions (drive t store) (calling (Erase d n) store words bytes))) ≡ 0
+pub opened-outcome : (t : Table) (store left words bytes : List ℕ) (d n m : ℕ) (b : Block) (r : Domain) → Begins t (Erase d n) (length store) → m < size t
+    → ¬ (d ≡ 0) → firstNo (laterQuestions (Erase d n) (drive t store) (calling (Erase d n) store words bytes)) ≡ 0
     → erasedBlock t n ≡ some m → drive (withDomain d r (withBlock m b t)) left ≡ openedFor d way.Erase m (drive t store)
     → ServesCommand t (Erase d n) store words bytes
     (served (outcomeServed t (record { answer = given.Block m; change = openingChange m b d r })) left words bytes)
-opened-outcome t store left words bytes d n m b r whole l positive-id pass found is =
-    rw (changed-opening t m b d r (sound-limits t whole) l positive-id)
-    (erased-call (drive t store) (drive (withDomain d r (withBlock m b t)) left) words bytes d n (some m) (given.Block m) whole pass found refl is)
+opened-outcome t store left words bytes d n m b r first l positive-id pass found is =
+    rw (changed-opening t m b d r (sound-limits t (begun-yes 2 t (Erase d n) (length store) first)) l positive-id)
+    (erased-call (drive t store) (drive (withDomain d r (withBlock m b t)) left) words bytes d n (some m) (given.Block m) first pass found refl is)
 
 -- Where none is found, the rules open none. (But the coverage rule leaves one, `erase-finds-free`.)
-pub none-outcome : (t : Table) (store words bytes : List ℕ) (d n : ℕ) → sound t ≡ true
-    → firstNo (after 2 (questions (drive t store) (calling (Erase d n) store words bytes))) ≡ 0 → erasedBlock t n ≡ none
+pub none-outcome : (t : Table) (store words bytes : List ℕ) (d n : ℕ) → Begins t (Erase d n) (length store)
+    → firstNo (laterQuestions (Erase d n) (drive t store) (calling (Erase d n) store words bytes)) ≡ 0 → erasedBlock t n ≡ none
     → ServesCommand t (Erase d n) store words bytes (served (outcomeServed t (leaving given.Done)) store words bytes)
-none-outcome t store words bytes d n whole pass found =
-    rw (changed-nothing t) (erased-call (drive t store) (drive t store) words bytes d n none given.Done whole pass found refl refl)
+none-outcome t store words bytes d n first pass found =
+    rw (changed-nothing t) (erased-call (drive t store) (drive t store) words bytes d n none given.Done first pass found refl refl)

@@ -1,31 +1,30 @@
--- What is asked of a domain and a block that it names.
+-- What is asked of a block that a domain names.
 use Prim.Native.Nat.{ℕ, _<_}
 use mathlib.Core.Bool.{true}
-use mathlib.Core.List.{[], _∷_, _++_}
+use mathlib.Core.List.{[], _∷_}
 use mathlib.Core.Path.{_≡_, refl}
 use borrow.Author.Tests.{ltb-true}
 use Rattle.geometry.proofs.Laws.Questions.{positive}
 use Rattle.geometry.proofs.Laws.Shape.{by-test}
-use Rattle.geometry.specs.Address.{isBlock, isDomainId}
+use Rattle.geometry.specs.Address.{isBlock}
 use Rattle.geometry.specs.Questions.{ask, firstNo}
 use Rattle.model.specs.declared.table.Table.{Table}
 use Rattle.rules.proofs.Questions.{yes-in}
-use Rattle.rules.specs.Calls.{existing}
 use Rattle.rules.specs.Drive.{heldBy, size}
-use Rattle.rules.specs.Questions.{domainQuestions, heldBlockQuestions}
+use Rattle.rules.specs.Questions.{heldBlockQuestions}
 use Rattle.survey.specs.Sight.{Sees, SeesBlock}
 use Rattle.survey.specs.declared.sight.Sight.{Sight}
 
 -- The record that is seen is asked for no block of another drive: the range comes first.
 pub named-asked : (t : Table) (d n : ℕ) (x : Sight) → Sees t d x → SeesBlock t n x → x .sound ≡ true
-    → firstNo (ask 4 (isDomainId d) ∷ ask 5 (x .domain .exists) ∷ ask 6 (isBlock (x .config) n) ∷ ask 9 (heldBy d (x .block)) ∷ [])
-    ≡ firstNo (domainQuestions t (existing d) ++ heldBlockQuestions t d n)
+    → firstNo (ask 6 (isBlock (x .config) n) ∷ ask 9 (heldBy d (x .block)) ∷ [])
+    ≡ firstNo (heldBlockQuestions t d n)
 unfolding firstNo
-named-asked t d n x s b e = rw (s .same-domain, s .same-config) (by-test (isBlock (t .config) n)
+named-asked t d n x s b e = rw (s .same-config) (by-test (isBlock (t .config) n)
     (λ q. rw (b .same-block e (ltb-true n (size t) q)))
     (λ q. rw q))
 
 -- Where all is answered yes the block is one of the drive's.
-pub named-inside : (t : Table) (d n : ℕ) → firstNo (domainQuestions t (existing d) ++ heldBlockQuestions t d n) ≡ 0 → n < size t
+pub named-inside : (t : Table) (d n : ℕ) → firstNo (heldBlockQuestions t d n) ≡ 0 → n < size t
 unfolding positive
-named-inside t d n e = ltb-true n (size t) (yes-in 6 (domainQuestions t (existing d) ++ heldBlockQuestions t d n) refl e)
+named-inside t d n e = ltb-true n (size t) (yes-in 6 (heldBlockQuestions t d n) refl e)

@@ -3,9 +3,8 @@ use Prim.Native.Nat.{ℕ}
 use mathlib.Core.Bool.{Bool, not, _&&_, _||_, cond}
 use mathlib.Core.List.{List, [], _∷_, _++_}
 use lib.Dec.{eqb, ltb}
-use Rattle.geometry.specs.Address.{isBlock, isDomainId}
+use Rattle.geometry.specs.Address.{isBlock}
 use Rattle.geometry.specs.Questions.{Question, ask}
-use Rattle.geometry.specs.Shape.{storeLength}
 use Rattle.model.specs.declared.table.Table.{Table}
 use Rattle.rules.specs.Blocks.{anyBlock}
 use Rattle.rules.specs.Counting.{implies}
@@ -17,32 +16,24 @@ use Rattle.tables.specs.Verdicts.{newBlocksQuestions}
 
 -- ---- The questions
 
--- 3 to 6, with so many entries in the store.
-unfoldable pub eraseArguments : Sight → ℕ → ℕ → ℕ → List Question
-eraseArguments x entries d n =
-    ask 3 (eqb entries (storeLength (x .config) .0))
-    ∷ ask 4 (isDomainId d)
-    ∷ ask 5 (x .domain .exists)
-    ∷ ask 6 (isBlock (x .config) n || eqb n anyBlock)
-    ∷ []
-
 -- Does Erase name a block that the domain holds?
 abbrev pub opensAgain : Sight → ℕ → ℕ → Bool
 opensAgain x d n = not (eqb n anyBlock) && heldBy d (x .block)
 
--- 9 and 10, ..
+-- 6, 9 and 10, ..
 unfoldable pub blockQuestions : Sight → ℕ → ℕ → List Question
 blockQuestions x d n =
-    ask 9 (eqb n anyBlock || isFree (x .block) || heldBy d (x .block))
+    ask 6 (isBlock (x .config) n || eqb n anyBlock)
+    ∷ ask 9 (eqb n anyBlock || isFree (x .block) || heldBy d (x .block))
     ∷ ask 10 (implies (opensAgain x d n) (isClosed (x .block)))
     ∷ []
 
--- .. and 9 to 14. A held block that is opened again isn't new.
+-- .. and 6 to 14. A held block that is opened again isn't new.
 abbrev pub newErased : Sight → ℕ → ℕ → ℕ
 newErased x d n = cond (opensAgain x d n) 0 1
 
-unfoldable pub eraseState : Table → Sight → ℕ → ℕ → List Question
-eraseState t x d n =
+unfoldable pub eraseQuestions : Table → Sight → ℕ → ℕ → List Question
+eraseQuestions t x d n =
     blockQuestions x d n ++ (ask 11 (ltb (x .opened) (x .domain .limit)) ∷ newBlocksQuestions t d 1 (newErased x d n))
 
 -- ---- The block that is opened

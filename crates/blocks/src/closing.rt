@@ -2,42 +2,39 @@
 use model::Answer;
 use model::Refusal;
 use survey::Sight;
-use survey::domain_verdict;
 use tables::Outcome;
 use tables::Verdict;
+use tables::ask;
 use tables::block_change;
 use tables::is_held;
 use tables::refusal;
 ghost use mathlib.Core.List.{List, [], _∷_};
 ghost use mathlib.Core.Path.{_≡_};
 ghost use Prim.Native.Nat.{ℕ};
-ghost use Rattle.geometry.specs.Address.{isBlock, isDomainId};
+ghost use Rattle.geometry.specs.Address.{isBlock};
 ghost use Rattle.geometry.specs.Questions as question;
 ghost use Rattle.model.specs.declared.command.Command.the-variants.{Close, Free};
 ghost use Rattle.model.specs.declared.table.Table.{Table};
 ghost use Rattle.rules.specs.Drive.{heldBy};
+ghost use Rattle.survey.specs.First.{Begun};
 ghost use Rattle.survey.specs.Sight.{Sees, SeesBlock};
 ghost use Rattle.tables.specs.Changing.{outcomeServed};
 ghost use Rattle.tables.specs.Serving.{ServesCommand, served};
 ghost use Rattle.tables.specs.Verdicts.{verdictNumber};
 
-// What Close and Free are asked.
+// 6 and 9, what Close and Free are asked.
 fn held_block_verdict(sight: Sight, domain: u64, block: u64) -> Verdict
-    ensures { λ r. ⌜ verdictNumber r ≡ question.firstNo (question.ask 4 (isDomainId domain) ∷ question.ask 5 (sight .domain .exists) ∷ question.ask 6 (isBlock (sight .config) block) ∷ question.ask 9 (heldBy domain (sight .block)) ∷ []) ⌝ }
+    ensures { λ r. ⌜ verdictNumber r ≡ question.firstNo (question.ask 6 (isBlock (sight .config) block) ∷ question.ask 9 (heldBy domain (sight .block)) ∷ []) ⌝ }
 {
     let b = sight.block;
-    domain_verdict(sight, domain)
-        .and(block < sight.config.blocks, Refusal::Range)
-        .and(is_held(b, domain), Refusal::Holder)
+    ask(block < sight.config.blocks, Refusal::Range).and(is_held(b, domain), Refusal::Holder)
 }
 
 // An open block becomes Closed; a Closed one stays as it is.
 pub fn close(sight: Sight, domain: u64, block: u64) -> Outcome
+    requires { ⌜ Begun (Close domain block) 0 sight ⌝ }
     ensures { λ r. ⌜ ((t : Table) (store words bytes : List ℕ) → Sees t domain sight → SeesBlock t block sight → ServesCommand t (Close domain block) store words bytes (served (outcomeServed t r) store words bytes)) ⌝ }
 {
-    if !sight.sound {
-        return refusal(Refusal::Unsound);
-    }
     match held_block_verdict(sight, domain, block) {
         Verdict::No(reason) => refusal(reason),
         Verdict::Pass => {
@@ -52,11 +49,9 @@ pub fn close(sight: Sight, domain: u64, block: u64) -> Outcome
 
 // A held block becomes Free; the store keeps its entries.
 pub fn free(sight: Sight, domain: u64, block: u64) -> Outcome
+    requires { ⌜ Begun (Free domain block) 0 sight ⌝ }
     ensures { λ r. ⌜ ((t : Table) (store words bytes : List ℕ) → Sees t domain sight → SeesBlock t block sight → ServesCommand t (Free domain block) store words bytes (served (outcomeServed t r) store words bytes)) ⌝ }
 {
-    if !sight.sound {
-        return refusal(Refusal::Unsound);
-    }
     match held_block_verdict(sight, domain, block) {
         Verdict::No(reason) => refusal(reason),
         Verdict::Pass => {

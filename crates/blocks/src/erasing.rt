@@ -6,7 +6,6 @@ use model::Refusal;
 use model::Way;
 use survey::Found;
 use survey::Sight;
-use survey::store_verdict;
 use tables::Outcome;
 use tables::Verdict;
 use tables::ask;
@@ -18,17 +17,18 @@ use tables::opening_change;
 use tables::refusal;
 use tables::unchanged;
 ghost use mathlib.Core.Bool.{false, true};
-ghost use mathlib.Core.List.{List, _++_};
+ghost use mathlib.Core.List.{List};
 ghost use mathlib.Core.Path.{_≡_};
 ghost use Prim.Native.Nat.{ℕ, _≤_};
-ghost use Rattle.blocks.specs.Erasing.{blockQuestions, eraseArguments, eraseState, erasedOf, newErased};
+ghost use Rattle.blocks.specs.Erasing.{blockQuestions, eraseQuestions, erasedOf, newErased};
 ghost use Rattle.geometry.specs.Address.{isDomainId};
 ghost use Rattle.geometry.specs.Questions.{firstNo};
-ghost use Rattle.geometry.specs.Shape.{withinLimits};
 ghost use Rattle.model.specs.declared.command.Command.the-variants.{Erase};
 ghost use Rattle.model.specs.declared.table.Table.{Table};
 ghost use lib.Dec.{eqb};
+ghost use lib.ListN.{length};
 ghost use Rattle.rules.specs.Blocks.{anyBlock};
+ghost use Rattle.survey.specs.First.{Begun};
 ghost use Rattle.survey.specs.Sight.{Seen, Sees, SeesBlock, SeesChoice};
 ghost use Rattle.tables.specs.Changing.{outcomeServed};
 ghost use Rattle.tables.specs.Serving.{ServesCommand, served};
@@ -37,23 +37,20 @@ ghost use Rattle.tables.specs.Verdicts.{verdictNumber};
 // Erase leaves the choice to the manager.
 const ANY_BLOCK: u64 = 0xffff_ffff;
 
-// ---- The questions // (3 asking to) 6.
-fn erase_arguments(sight: Sight, domain: u64, block: u64, entries: usize) -> Verdict
-    requires { ⌜ withinLimits (sight .config) ≡ true ⌝ }
-    ensures { λ r. ⌜ verdictNumber r ≡ firstNo (eraseArguments sight entries domain block) ⌝ }
-{
-    let range = (block < sight.config.blocks) | (block == ANY_BLOCK);
-    store_verdict(sight, domain, entries).and(range, Refusal::Range)
-}
+// ---- The questions
 
-// 9 and 10: is the block the domain's to erase?
+// 6, 9 and 10: is the number in range, and the block the domain's to erase?
 fn erase_block_verdict(sight: Sight, domain: u64, block: u64) -> Verdict
     ensures { λ r. ⌜ verdictNumber r ≡ firstNo (blockQuestions sight domain block) ⌝ }
 {
     let b = sight.block;
     let any = block == ANY_BLOCK;
     let own = is_held(b, domain);
-    ask(any | is_free(b) | own, Refusal::Holder).and(any | !own | is_closed(b), Refusal::BlockState)
+    ask((block < sight.config.blocks) | any, Refusal::Range).and(
+            any | is_free(b) | own,
+            Refusal::Holder,
+        )
+        .and(any | !own | is_closed(b), Refusal::BlockState)
 }
 
 // A held block that is opened again isn't new.
@@ -68,27 +65,17 @@ fn new_of_erase(sight: Sight, domain: u64, block: u64) -> u64
     }
 }
 
-// 9 to 14.
-fn erase_state(sight: Sight, domain: u64, block: u64) -> Verdict
+// 6 to 14.
+fn erase_verdict(sight: Sight, domain: u64, block: u64) -> Verdict
     requires { ⌜ Seen domain sight × (sight .sound ≡ true) ⌝ }
     requires { ⌜ isDomainId domain ≡ true ⌝ }
-    ensures { λ r. ⌜ ((t : Table) → Sees t domain sight → verdictNumber r ≡ firstNo (eraseState t sight domain block)) ⌝ }
+    ensures { λ r. ⌜ ((t : Table) → Sees t domain sight → verdictNumber r ≡ firstNo (eraseQuestions t sight domain block)) ⌝ }
 {
     let d = sight.domain;
     let new = new_of_erase(sight, domain, block);
     erase_block_verdict(sight, domain, block)
         .and(may_open(d, sight.opened), Refusal::OpenLimit)
         .then(new_blocks_verdict(sight, domain, 1, new))
-}
-
-fn erase_verdict(sight: Sight, domain: u64, block: u64, entries: usize) -> Verdict
-    requires { ⌜ Seen domain sight × (sight .sound ≡ true) ⌝ }
-    ensures { λ r. ⌜ ((t : Table) → Sees t domain sight → verdictNumber r ≡ firstNo (eraseArguments sight entries domain block ++ eraseState t sight domain block)) ⌝ }
-{
-    match erase_arguments(sight, domain, block, entries) {
-        Verdict::No(reason) => Verdict::No(reason),
-        Verdict::Pass => erase_state(sight, domain, block),
-    }
 }
 
 // ---- The change
@@ -106,12 +93,10 @@ fn erased_block(sight: Sight, block: u64) -> Found
 // Opens a block with entries of all ones. Where none is found none is opened.
 pub fn erase(sight: Sight, domain: u64, block: u64, store: &mut [u64]) -> Outcome
     requires { ⌜ ((t : Table) × Sees t domain sight × (eqb block anyBlock ≡ false → SeesBlock t block sight) × (eqb block anyBlock ≡ true → SeesChoice t sight)) ⌝ }
+    requires { ⌜ Begun (Erase domain block) (length (now store)) sight ⌝ }
     ensures { λ r. ⌜ ((t : Table) (words bytes : List ℕ) → Sees t domain sight → (eqb block anyBlock ≡ false → SeesBlock t block sight) → (eqb block anyBlock ≡ true → SeesChoice t sight) → ServesCommand t (Erase domain block) (now (store .entry)) words bytes (served (outcomeServed t r) (now (store .exit)) words bytes)) ⌝ }
 {
-    if !sight.sound {
-        return refusal(Refusal::Unsound);
-    }
-    match erase_verdict(sight, domain, block, store.len()) {
+    match erase_verdict(sight, domain, block) {
         Verdict::No(reason) => refusal(reason),
         Verdict::Pass => match erased_block(sight, block) {
             Found::Nothing => unchanged(Answer::Done),

@@ -5,9 +5,9 @@ use mathlib.Core.List.{List, [], _∷_}
 use mathlib.Core.Path.{_≡_, refl, sym, ap, _∙_}
 use native.Mathlib.Omega.{arith}
 use lib.Dec.{leb}
+use lib.ListN.{length}
 use borrow.Author.Tests.{leb-true}
-use Rattle.domains.specs.Reserving.{changeArguments, changedFrom, createArguments, reserved}
-use Rattle.geometry.proofs.Laws.Questions.{positive}
+use Rattle.domains.specs.Reserving.{changedFrom, createRange, reserved}
 use Rattle.geometry.proofs.Laws.Shape.{both, by-test, is-between, least-blocks, limits}
 use Rattle.geometry.specs.Address.{isDomainId}
 use Rattle.geometry.specs.Questions.{ask, firstNo}
@@ -17,19 +17,18 @@ use Rattle.geometry.specs.declared.shape.Planes.{Planes}
 use Rattle.model.specs.declared.answer.Answer.the-variants.{Done}
 use Rattle.model.specs.declared.answer.Refusal.the-variants.{Coverage}
 use Rattle.model.specs.declared.command.Command.{Command}
-use Rattle.model.specs.declared.command.Command.the-variants.{ChangeCapacity, Create}
 use Rattle.model.specs.declared.table.Domain.{Domain}
 use Rattle.model.specs.declared.table.Table.{Table}
-use Rattle.rules.proofs.Questions.{after, before, from, yes-in}
-use Rattle.rules.specs.Calls.{Call, _asking_, calling, profile}
+use Rattle.rules.specs.Calls.{calling, profile}
 use Rattle.rules.specs.Domains.{arePlaneCounts, changedDomain, coveredWith}
 use Rattle.rules.specs.Drive.{heldCount, withDomain}
-use Rattle.rules.specs.Effects.{Fills, changing, effect, questions}
-use Rattle.survey.proofs.Outcomes.{changed-outcome, later-outcome}
+use Rattle.rules.specs.Effects.{Fills, changing, effect}
+use Rattle.rules.specs.Questions.{laterQuestions}
+use Rattle.survey.proofs.Outcomes.{change-outcome, then-outcome}
 use Rattle.survey.proofs.Seeing.{changed-domain}
+use Rattle.survey.specs.First.{Begins}
 use Rattle.survey.specs.Sight.{Sees}
 use Rattle.survey.specs.declared.sight.Sight.{Sight}
-use Rattle.tables.proofs.Answering.{second-part}
 use Rattle.tables.specs.Changing.{domainChange, outcomeServed}
 use Rattle.tables.specs.Serving.{ServesCommand, drive, served}
 
@@ -49,47 +48,16 @@ few-both c guarantee quota within e =
     let h = both (leb (guarantee .0) (drivePlanes c .0)) (leb (quota .0) (drivePlanes c .0)) e in
     (few-blocks c guarantee within (h .0), few-blocks c quota within (h .1))
 
--- ---- What is asked first, and the new record
+-- ---- The numbers, and the new record
 
--- What is asked of what is seen is asked of the table.
-pub create-asked : (t : Table) (d : ℕ) (x : Sight) (guarantee quota : Planes) (placements limit : ℕ) (store : List ℕ) (call : Call) → Sees t d x
-    → firstNo (createArguments x d guarantee quota placements limit)
-    ≡ firstNo (before 14 (after 2 (questions (drive t store) (call asking Create d guarantee quota placements limit))))
-unfolding questions
-create-asked t d x guarantee quota placements limit store call s = rw (s .same-domain, s .same-config)
-
-pub change-asked : (t : Table) (d : ℕ) (x : Sight) (guarantee quota : Planes) (store : List ℕ) (call : Call) → Sees t d x
-    → firstNo (changeArguments x d guarantee quota)
-    ≡ firstNo (before 14 (after 2 (questions (drive t store) (call asking ChangeCapacity d guarantee quota))))
-unfolding questions
-change-asked t d x guarantee quota store call s = rw (s .same-domain, s .same-config)
-
--- Where they are answered yes: the ID is a domain's, ..
-pub create-id : (x : Sight) (d : ℕ) (guarantee quota : Planes) (placements limit : ℕ)
-    → firstNo (createArguments x d guarantee quota placements limit) ≡ 0 → isDomainId d ≡ true
-unfolding positive
-create-id x d guarantee quota placements limit e = yes-in 4 (createArguments x d guarantee quota placements limit) refl e
-
-pub change-id : (x : Sight) (d : ℕ) (guarantee quota : Planes) → firstNo (changeArguments x d guarantee quota) ≡ 0 → isDomainId d ≡ true
-unfolding positive
-change-id x d guarantee quota e = yes-in 4 (changeArguments x d guarantee quota) refl e
-
--- .. and the numbers are in range.
-pub create-range : (x : Sight) (d : ℕ) (guarantee quota : Planes) (placements limit : ℕ)
-    → firstNo (createArguments x d guarantee quota placements limit) ≡ 0
-    → (arePlaneCounts (x .config) guarantee quota ≡ true) × ((placements ≤ 16) × (limit ≤ 256))
-unfolding positive
-create-range x d guarantee quota placements limit e =
-    let counts = arePlaneCounts (x .config) guarantee quota in
+pub create-range : (c : Config) (guarantee quota : Planes) (placements limit : ℕ) → createRange c guarantee quota placements limit ≡ true
+    → (arePlaneCounts c guarantee quota ≡ true) × ((placements ≤ 16) × (limit ≤ 256))
+create-range c guarantee quota placements limit e =
+    let counts = arePlaneCounts c guarantee quota in
     let placed = between 1 16 placements in
-    let h = both (counts && placed) (between 0 256 limit) (yes-in 6 (createArguments x d guarantee quota placements limit) refl e) in
+    let h = both (counts && placed) (between 0 256 limit) e in
     let k = both counts placed (h .0) in
     (k .0, (is-between 1 16 placements (k .1) .most, is-between 0 256 limit (h .1) .most))
-
-pub change-range : (x : Sight) (d : ℕ) (guarantee quota : Planes) → firstNo (changeArguments x d guarantee quota) ≡ 0
-    → arePlaneCounts (x .config) guarantee quota ≡ true
-unfolding positive
-change-range x d guarantee quota e = yes-in 6 (changeArguments x d guarantee quota) refl e
 
 -- The new record is the rules'.
 pub changed-seen : (t : Table) (d : ℕ) (x : Sight) (guarantee quota : Planes) → Sees t d x → x .sound ≡ true → isDomainId d ≡ true
@@ -99,23 +67,19 @@ changed-seen t d x guarantee quota s e id = rw (s .same-config, s .same-domain, 
 
 -- ---- The coverage rule decides
 
--- A command whose fourth question after soundness is the coverage rule with a domain's new record, and which puts it in place.
-pub reserving-outcome : (t : Table) (d : ℕ) (x : Sight) (c : Command) (new : Domain) (store words bytes : List ℕ)
-    → Sees t d x
-    → x .sound ≡ true
+-- A command that is asked about its numbers, and then for the coverage rule with a domain's new record, which it puts in place.
+pub reserving-outcome : (t : Table) (d : ℕ) (c : Command) (new : Domain) (store words bytes : List ℕ)
     → isDomainId d ≡ true
-    → firstNo (before 14 (after 2 (questions (drive t store) (calling c store words bytes)))) ≡ 0
-    → from 14 (after 2 (questions (drive t store) (calling c store words bytes))) ≡ ask 14 (coveredWith t d (new .reserved) (heldCount t d)) ∷ []
+    → Begins t c (length store)
+    → laterQuestions c (drive t store) (calling c store words bytes) ≡ ask 6 true ∷ ask 14 (coveredWith t d (new .reserved) (heldCount t d)) ∷ []
     → effect (drive t store) (calling c store words bytes) ≡ changing [] (withDomain d new t) (drive t store)
     → Fills (profile c .bytes) t []
     → ServesCommand t c store words bytes (served (outcomeServed t (reserved t d new)) store words bytes)
 unfolding reserved firstNo
-reserving-outcome t d x c new store words bytes s e id first last does bytes-are =
-    let v = drive t store in
-    let call = calling c store words bytes in
+reserving-outcome t d c new store words bytes id first then does bytes-are =
     let test = coveredWith t d (new .reserved) (heldCount t d) in
-    let asked : firstNo (after 2 (questions v call)) ≡ firstNo (ask 14 test ∷ []) = second-part v call 14 first ∙ ap firstNo last in
+    let asked : firstNo (laterQuestions c (drive t store) (calling c store words bytes)) ≡ firstNo (ask 14 test ∷ []) = ap firstNo then in
     let known : ¬ (d ≡ 0) = λ none. omega (arith, is-between 1 16 d id .least, none) in
     by-test test
-    (λ q. rw q (changed-outcome t d x c Done (domainChange d new) (withDomain d new t) [] store words bytes s e (asked ∙ rw q) (changed-domain t d new known) does refl bytes-are))
-    (λ q. rw q (later-outcome t d x c _ Coverage store words bytes s e (sym (asked ∙ rw q)) refl))
+    (λ q. rw q (change-outcome t c Done (domainChange d new) (withDomain d new t) [] store words bytes first (asked ∙ rw q) (changed-domain t d new known) does refl bytes-are))
+    (λ q. rw q (then-outcome t c _ Coverage store words bytes first (sym (asked ∙ rw q)) refl))

@@ -1,13 +1,9 @@
--- What Create and Change Capacity ask first, a domain's new record, and what is made of it.
+-- What Create is asked of its arguments, a domain's new record, and what is made of it.
 use Prim.Native.Nat.{ℕ, max}
-use mathlib.Core.Bool.{not, _&&_, cond}
-use mathlib.Core.List.{List, [], _∷_}
-use Rattle.geometry.specs.Address.{isDomainId}
-use Rattle.geometry.specs.Questions.{Question, ask}
+use mathlib.Core.Bool.{Bool, _&&_, cond}
 use Rattle.geometry.specs.Shape.{between}
 use Rattle.geometry.specs.declared.shape.Config.{Config}
 use Rattle.geometry.specs.declared.shape.Planes.{Planes}
-use Rattle.survey.specs.declared.sight.Sight.{Sight}
 use Rattle.tables.specs.Changing.{domainChange, leaving}
 use Rattle.tables.specs.declared.change.Outcome.{Outcome}
 use Rattle.model.specs.declared.answer.Answer.the-variants.{Done, Refused}
@@ -17,20 +13,9 @@ use Rattle.model.specs.declared.table.Table.{Table}
 use Rattle.rules.specs.Domains.{arePlaneCounts, coveredWith, newBlockCount}
 use Rattle.rules.specs.Drive.{heldCount}
 
--- The questions on the arguments, of what is seen of a table.
-abbrev pub createArguments : Sight → ℕ → Planes → Planes → ℕ → ℕ → List Question
-createArguments x d guarantee quota placements limit =
-    ask 4 (isDomainId d)
-    ∷ ask 5 (not (x .domain .exists))
-    ∷ ask 6 (arePlaneCounts (x .config) guarantee quota && between 1 16 placements && between 0 256 limit)
-    ∷ []
-
-abbrev pub changeArguments : Sight → ℕ → Planes → Planes → List Question
-changeArguments x d guarantee quota =
-    ask 4 (isDomainId d)
-    ∷ ask 5 (x .domain .exists)
-    ∷ ask 6 (arePlaneCounts (x .config) guarantee quota)
-    ∷ []
+-- What is asked of the arguments of Create.
+abbrev pub createRange : Config → Planes → Planes → ℕ → ℕ → Bool
+createRange c guarantee quota placements limit = arePlaneCounts c guarantee quota && between 1 16 placements && between 0 256 limit
 
 -- What Change Capacity makes of the record of a domain that holds so many blocks.
 unfoldable pub changedFrom : Config → Domain → ℕ → Planes → Planes → Domain

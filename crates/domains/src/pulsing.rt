@@ -1,25 +1,22 @@
 // Pulse: the seconds of every open block count down.
 use model::Answer;
 use model::Refusal;
-use survey::Sight;
 use tables::Outcome;
 use tables::pulse_change;
 use tables::refusal;
 ghost use mathlib.Core.List.{List};
 ghost use Prim.Native.Nat.{ℕ};
+ghost use lib.ListN.{length};
 ghost use Rattle.model.specs.declared.command.Command.the-variants.{Pulse};
 ghost use Rattle.model.specs.declared.table.Table.{Table};
-ghost use Rattle.survey.specs.Sight.{Sees};
+ghost use Rattle.survey.specs.First.{Begins};
 ghost use Rattle.tables.specs.Changing.{outcomeServed};
 ghost use Rattle.tables.specs.Serving.{ServesCommand, served};
 
 // Each open block has so many seconds less, and is Closed where none are left.
-pub fn pulse(sight: Sight, seconds: u64) -> Outcome
-    ensures { λ r. ⌜ ((t : Table) (store words bytes : List ℕ) → Sees t 0 sight → ServesCommand t (Pulse seconds) store words bytes (served (outcomeServed t r) store words bytes)) ⌝ }
+pub fn pulse(seconds: u64) -> Outcome
+    ensures { λ r. ⌜ ((t : Table) (store words bytes : List ℕ) → Begins t (Pulse seconds) (length store) → ServesCommand t (Pulse seconds) store words bytes (served (outcomeServed t r) store words bytes)) ⌝ }
 {
-    if !sight.sound {
-        return refusal(Refusal::Unsound);
-    }
     if 65535 < seconds {
         return refusal(Refusal::Range);
     }

@@ -2,34 +2,29 @@
 use geometry::Config;
 use geometry::Planes;
 use geometry::drive_planes;
-use geometry::is_domain_id;
 use geometry::whole_blocks;
 use model::Answer;
 use model::Domain;
 use model::Refusal;
 use survey::Sight;
 use survey::covered_with;
-use survey::domain_verdict;
 use tables::Outcome;
-use tables::Verdict;
-use tables::ask;
 use tables::domain_change;
 use tables::refusal;
 ghost use mathlib.Core.Bool.{true};
 ghost use mathlib.Core.List.{List};
 ghost use mathlib.Core.Path.{_≡_};
 ghost use Prim.Native.Nat.{ℕ, _≤_, max};
-ghost use Rattle.domains.specs.Reserving.{changeArguments, changedFrom, createArguments, reserved};
+ghost use Rattle.domains.specs.Reserving.{changedFrom, createRange, reserved};
 ghost use Rattle.geometry.specs.Address.{isDomainId};
-ghost use Rattle.geometry.specs.Questions.{firstNo};
 ghost use Rattle.geometry.specs.Shape.{wholeBlocks, withinLimits};
 ghost use Rattle.model.specs.declared.command.Command.the-variants.{ChangeCapacity, Create};
 ghost use Rattle.model.specs.declared.table.Table.{Table};
 ghost use Rattle.rules.specs.Domains.{arePlaneCounts, createdDomain, newBlockCount, openLimit};
+ghost use Rattle.survey.specs.First.{Begun};
 ghost use Rattle.survey.specs.Sight.{Seen, Sees};
 ghost use Rattle.tables.specs.Changing.{outcomeServed};
 ghost use Rattle.tables.specs.Serving.{ServesCommand, served};
-ghost use Rattle.tables.specs.Verdicts.{verdictNumber};
 
 fn are_plane_counts(config: Config, guarantee: Planes, quota: Planes) -> bool
     requires { ⌜ withinLimits config ≡ true ⌝ }
@@ -71,24 +66,14 @@ fn reserved(sight: Sight, domain: u64, new: Domain) -> Outcome
 
 // ---- Create
 
-fn create_arguments(
-    sight: Sight,
-    domain: u64,
-    guarantee: Planes,
-    quota: Planes,
-    placements: u64,
-    limit: u64,
-) -> Verdict
-    requires { ⌜ withinLimits (sight .config) ≡ true ⌝ }
-    ensures { λ r. ⌜ verdictNumber r ≡ firstNo (createArguments sight domain guarantee quota placements limit) ⌝ }
+// 6: are the numbers in range?
+fn in_range(config: Config, guarantee: Planes, quota: Planes, placements: u64, limit: u64) -> bool
+    requires { ⌜ withinLimits config ≡ true ⌝ }
+    ensures { λ r. ⌜ r ≡ createRange config guarantee quota placements limit ⌝ }
 {
-    let config = sight.config;
-    let d = sight.domain;
-    let range = are_plane_counts(config, guarantee, quota)
+    are_plane_counts(config, guarantee, quota)
         & ((1 <= placements) & (placements <= 16))
-        & (limit <= 256);
-    ask(is_domain_id(domain), Refusal::DomainId).and(!d.exists, Refusal::Existence)
-        .and(range, Refusal::Range)
+        & (limit <= 256)
 }
 
 fn open_limit(placements: u64, limit: u64) -> u64
@@ -135,31 +120,18 @@ pub fn create(
     placements: u64,
     limit: u64,
 ) -> Outcome
-    requires { ⌜ Seen domain sight ⌝ }
+    requires { ⌜ Seen domain sight × Begun (Create domain guarantee quota placements limit) 0 sight ⌝ }
     ensures { λ r. ⌜ ((t : Table) (store words bytes : List ℕ) → Sees t domain sight → ServesCommand t (Create domain guarantee quota placements limit) store words bytes (served (outcomeServed t r) store words bytes)) ⌝ }
 {
-    if !sight.sound {
-        return refusal(Refusal::Unsound);
+    let config = sight.config;
+    if in_range(config, guarantee, quota, placements, limit) {
+        let new = created_domain(config, guarantee, quota, placements, limit);
+        return reserved(sight, domain, new);
     }
-    match create_arguments(sight, domain, guarantee, quota, placements, limit) {
-        Verdict::No(reason) => refusal(reason),
-        Verdict::Pass => {
-            let config = sight.config;
-            let new = created_domain(config, guarantee, quota, placements, limit);
-            reserved(sight, domain, new)
-        }
-    }
+    refusal(Refusal::Range)
 }
 
 // ---- Change Capacity
-
-fn change_arguments(sight: Sight, domain: u64, guarantee: Planes, quota: Planes) -> Verdict
-    requires { ⌜ withinLimits (sight .config) ≡ true ⌝ }
-    ensures { λ r. ⌜ verdictNumber r ≡ firstNo (changeArguments sight domain guarantee quota) ⌝ }
-{
-    let config = sight.config;
-    domain_verdict(sight, domain).and(are_plane_counts(config, guarantee, quota), Refusal::Range)
-}
 
 fn new_block_count(config: Config, n: Planes, present: u32) -> u32
     requires { ⌜ withinLimits config ≡ true ⌝ }
@@ -192,17 +164,13 @@ fn changed_domain(sight: Sight, guarantee: Planes, quota: Planes) -> Domain
 
 // Another guarantee and quota; 0 keeps the present one, and the quota does not fall below what is held.
 pub fn change_capacity(sight: Sight, domain: u64, guarantee: Planes, quota: Planes) -> Outcome
-    requires { ⌜ Seen domain sight ⌝ }
+    requires { ⌜ Seen domain sight × Begun (ChangeCapacity domain guarantee quota) 0 sight ⌝ }
     ensures { λ r. ⌜ ((t : Table) (store words bytes : List ℕ) → Sees t domain sight → ServesCommand t (ChangeCapacity domain guarantee quota) store words bytes (served (outcomeServed t r) store words bytes)) ⌝ }
 {
-    if !sight.sound {
-        return refusal(Refusal::Unsound);
+    let config = sight.config;
+    if are_plane_counts(config, guarantee, quota) {
+        let new = changed_domain(sight, guarantee, quota);
+        return reserved(sight, domain, new);
     }
-    match change_arguments(sight, domain, guarantee, quota) {
-        Verdict::No(reason) => refusal(reason),
-        Verdict::Pass => {
-            let new = changed_domain(sight, guarantee, quota);
-            reserved(sight, domain, new)
-        }
-    }
+    refusal(Refusal::Range)
 }

@@ -2,25 +2,24 @@
 use Prim.Native.Nat.{ℕ, _<_, _≤_}
 use mathlib.Core.Bool.{true}
 use mathlib.Core.List.{List, [], _∷_}
-use mathlib.Core.Path.{_≡_, refl, sym, ap, _∙_}
+use mathlib.Core.Path.{_≡_, refl, sym, ap}
 use lib.Dec.{leb}
 use borrow.Author.Tests.{leb-true, ltb-true}
 use Rattle.geometry.proofs.Laws.Questions.{positive}
 use Rattle.geometry.proofs.Laws.Shape.{by-test}
 use Rattle.geometry.specs.Address.{isBlock, isDomainId}
-use Rattle.geometry.specs.Questions.{Question, ask, firstNo}
+use Rattle.geometry.specs.Questions.{ask, firstNo}
 use Rattle.log_pages.proofs.Holdings.{length-seen}
 use Rattle.log_pages.specs.LogPages.{lengthSeen, pageQuestions}
 use Rattle.model.specs.declared.command.Command.the-variants.{List as Listing, Page}
 use Rattle.model.specs.declared.command.Listed.{Listed}
 use Rattle.model.specs.declared.table.Table.{Table}
-use Rattle.rules.proofs.Questions.{after, before, yes-in}
-use Rattle.rules.specs.Calls.{Call, _asking_, lending}
+use Rattle.rules.proofs.Questions.{yes-in}
+use Rattle.rules.specs.Calls.{lending}
 use Rattle.rules.specs.Drive.{size}
-use Rattle.rules.specs.Effects.{questions}
+use Rattle.rules.specs.Questions.{laterQuestions}
 use Rattle.survey.specs.Sight.{Sees, SeesBlock}
 use Rattle.survey.specs.declared.sight.Sight.{Sight}
-use Rattle.tables.proofs.Answering.{second-part}
 use Rattle.tables.specs.Serving.{drive}
 
 -- ---- Page
@@ -28,10 +27,10 @@ use Rattle.tables.specs.Serving.{drive}
 -- The record that is seen is asked for no block of another drive: the range comes first.
 pub page-asked : (t : Table) (d n room : ℕ) (x : Sight) (store : List ℕ) (entries words : ℕ) → Sees t d x → SeesBlock t n x
     → x .sound ≡ true
-    → firstNo (pageQuestions x d n room) ≡ firstNo (after 2 (questions (drive t store) (lending (Page d n) entries words room)))
-unfolding firstNo questions
+    → firstNo (pageQuestions x d n room) ≡ firstNo (laterQuestions (Page d n) (drive t store) (lending (Page d n) entries words room))
+unfolding firstNo
 page-asked t d n room x store entries words s b e =
-    rw (s .same-domain, s .same-config)
+    rw (s .same-config)
     (by-test (isBlock (t .config) n) (λ q. rw (b .same-block e (ltb-true n (size t) q))) (λ q. rw q))
 
 -- Where all is answered yes the block is one of the drive's, ..
@@ -46,25 +45,9 @@ page-room x d n room e = leb-true 256 room (yes-in 7 (pageQuestions x d n room) 
 
 -- ---- List
 
--- What is asked of the domain, ..
-abbrev pub domainQuestions : Sight → ℕ → List Question
-domainQuestions x d = ask 4 (isDomainId d) ∷ ask 5 (x .domain .exists) ∷ []
-
-pub domain-asked : (t : Table) (d : ℕ) (which : Listed) (x : Sight) (store : List ℕ) (call : Call) → Sees t d x
-    → firstNo (domainQuestions x d) ≡ firstNo (before 7 (after 2 (questions (drive t store) (call asking Listing d which))))
-unfolding questions
-domain-asked t d which x store call s = rw (s .same-domain)
-
--- .. where it is answered yes: the ID is a domain's, ..
-pub known-id : (x : Sight) (d : ℕ) → firstNo (domainQuestions x d) ≡ 0 → isDomainId d ≡ true
-unfolding positive
-known-id x d e = yes-in 4 (domainQuestions x d) refl e
-
--- .. and the bytes are left to ask for.
+-- The bytes alone are asked for.
 pub list-asked : (t : Table) (d : ℕ) (which : Listed) (x : Sight) (store : List ℕ) (entries words room : ℕ) → Sees t d x → x .sound ≡ true
-    → firstNo (domainQuestions x d) ≡ 0
-    → firstNo (after 2 (questions (drive t store) (lending (Listing d which) entries words room))) ≡ firstNo (ask 7 (leb (lengthSeen x which) room) ∷ [])
-unfolding questions
-list-asked t d which x store entries words room s e first =
-    second-part (drive t store) (lending (Listing d which) entries words room) 7 (rw (s .same-domain) at first)
-    ∙ ap (λ (n : ℕ). firstNo (ask 7 (leb n room) ∷ [])) (sym (length-seen t d which x s e (known-id x d first)))
+    → isDomainId d ≡ true
+    → firstNo (laterQuestions (Listing d which) (drive t store) (lending (Listing d which) entries words room)) ≡ firstNo (ask 7 (leb (lengthSeen x which) room) ∷ [])
+list-asked t d which x store entries words room s e id =
+    ap (λ (n : ℕ). firstNo (ask 7 (leb n room) ∷ [])) (sym (length-seen t d which x s e id))

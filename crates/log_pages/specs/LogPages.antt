@@ -3,7 +3,7 @@ use Prim.Native.Nat.{ℕ, zero, suc, _+_, _-_, _*_}
 use mathlib.Core.Bool.{cond}
 use mathlib.Core.List.{List, [], _∷_, _++_}
 use lib.Dec.{eqb, leb}
-use Rattle.geometry.specs.Address.{isBlock, isDomainId}
+use Rattle.geometry.specs.Address.{isBlock}
 use Rattle.geometry.specs.Questions.{Question, ask}
 use Rattle.model.specs.declared.command.Listed.{Listed}
 use Rattle.model.specs.declared.command.Listed.the-variants.{Closed, Open}
@@ -15,9 +15,7 @@ use Rattle.survey.specs.declared.sight.Sight.{Sight}
 -- What Page is asked, with room for so many bytes.
 abbrev pub pageQuestions : Sight → ℕ → ℕ → ℕ → List Question
 pageQuestions x d n room =
-    ask 4 (isDomainId d)
-    ∷ ask 5 (x .domain .exists)
-    ∷ ask 6 (isBlock (x .config) n)
+    ask 6 (isBlock (x .config) n)
     ∷ ask 7 (leb 256 room)
     ∷ ask 9 (heldBy d (x .block))
     ∷ []

@@ -5,9 +5,7 @@ use model::Listed;
 use model::Refusal;
 use survey::Sight;
 use survey::byte_told;
-use survey::domain_verdict;
 use survey::index_told;
-use tables::Verdict;
 ghost use mathlib.Core.List.{List};
 ghost use mathlib.Core.Path.{_≡_};
 ghost use Prim.Native.Nat.{ℕ, _+_, _≤_};
@@ -17,6 +15,7 @@ ghost use Rattle.model.specs.declared.command.Command.the-variants.{List as Lis
 ghost use Rattle.model.specs.declared.table.Table.{Table};
 ghost use Rattle.rules.specs.Drive.{overwritten};
 ghost use Rattle.rules.specs.LogPages.{descriptorOf};
+ghost use Rattle.survey.specs.First.{Begun};
 ghost use Rattle.survey.specs.Marks.{markCount};
 ghost use Rattle.survey.specs.Sight.{Sees, SeesList};
 ghost use Rattle.tables.specs.Serving.{ServesCommand, answering, served};
@@ -65,20 +64,13 @@ fn list_length(sight: Sight, listed: Listed) -> u64
 // number.
 pub fn list(sight: Sight, domain: u64, listed: Listed, marks: &[u16], bytes: &mut [u8]) -> Answer
     requires { ⌜ ((t : Table) × Sees t domain sight × SeesList t domain listed sight (now marks)) ⌝ }
+    requires { ⌜ Begun (Listing domain listed) 0 sight ⌝ }
     requires { ⌜ length (now marks) ≡ markCount ⌝ }
     ensures { λ r. ⌜ ((t : Table) (store words : List ℕ) → Sees t domain sight → SeesList t domain listed sight (now (marks .entry)) → ServesCommand t (Listing domain listed) store words (now (bytes .entry)) (served (answering t r) store words (now (bytes .exit)))) ⌝ }
 {
-    if !sight.sound {
-        return Answer::Refused(Refusal::Unsound);
+    if (bytes.len() as u64) < list_length(sight, listed) {
+        return Answer::Refused(Refusal::Output);
     }
-    match domain_verdict(sight, domain) {
-        Verdict::No(reason) => Answer::Refused(reason),
-        Verdict::Pass => {
-            if (bytes.len() as u64) < list_length(sight, listed) {
-                return Answer::Refused(Refusal::Output);
-            }
-            put_list(bytes, marks, sight.config.blocks as usize);
-            Answer::Done
-        }
-    }
+    put_list(bytes, marks, sight.config.blocks as usize);
+    Answer::Done
 }

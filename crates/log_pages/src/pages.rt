@@ -8,8 +8,8 @@ use model::Answer;
 use model::Block;
 use model::Refusal;
 use survey::Sight;
-use survey::domain_verdict;
 use tables::Verdict;
+use tables::ask;
 use tables::integrity;
 use tables::is_held;
 use tables::state_byte;
@@ -27,6 +27,7 @@ ghost use Rattle.model.specs.declared.command.Command.the-variants.{Page};
 ghost use Rattle.model.specs.declared.table.Table.{Table};
 ghost use Rattle.rules.specs.Drive.{overwritten};
 ghost use Rattle.rules.specs.LogPages.{page};
+ghost use Rattle.survey.specs.First.{Begun};
 ghost use Rattle.survey.specs.Sight.{Seen, Sees, SeesBlock};
 ghost use Rattle.tables.specs.Serving.{ServesCommand, answering, served};
 ghost use Rattle.tables.specs.Verdicts.{verdictNumber};
@@ -60,24 +61,20 @@ fn put_counts(bytes: &mut [u8], config: Config, block: Block)
     put_field(bytes, 28, 228, 0);
 }
 
+// 6, 7 and 9.
 fn page_verdict(sight: Sight, domain: u64, block: u64, room: usize) -> Verdict
     ensures { λ r. ⌜ verdictNumber r ≡ firstNo (pageQuestions sight domain block room) ⌝ }
 {
     let b = sight.block;
-    domain_verdict(sight, domain)
-        .and(block < sight.config.blocks, Refusal::Range)
-        .and(256 <= room, Refusal::Output)
+    ask(block < sight.config.blocks, Refusal::Range).and(256 <= room, Refusal::Output)
         .and(is_held(b, domain), Refusal::Holder)
 }
 
 // Super Block Information of a held block, 256 bytes.
 pub fn page(sight: Sight, domain: u64, block: u64, bytes: &mut [u8]) -> Answer
-    requires { ⌜ Seen domain sight ⌝ }
+    requires { ⌜ Seen domain sight × Begun (Page domain block) 0 sight ⌝ }
     ensures { λ r. ⌜ ((t : Table) (store words : List ℕ) → Sees t domain sight → SeesBlock t block sight → ServesCommand t (Page domain block) store words (now (bytes .entry)) (served (answering t r) store words (now (bytes .exit)))) ⌝ }
 {
-    if !sight.sound {
-        return Answer::Refused(Refusal::Unsound);
-    }
     match page_verdict(sight, domain, block, bytes.len()) {
         Verdict::No(reason) => Answer::Refused(reason),
         Verdict::Pass => {

@@ -18,6 +18,7 @@ use Rattle.model.specs.declared.command.Listed.{Listed}
 use Rattle.model.specs.declared.command.Listed.the-variants as listed
 use Rattle.model.specs.declared.table.Table.{Table}
 use Rattle.rules.specs.Blocks.{anyBlock}
+use Rattle.rules.specs.Calls.{domainOf, profile}
 use Rattle.rules.specs.Drive.{blockAt, size}
 use Rattle.survey.proofs.Listings.{sees-list}
 use Rattle.survey.proofs.Outcomes.{left-as-is}
@@ -88,6 +89,25 @@ sighting v command k marks r is told made t p =
       chooses = q .chooses a;
       lists = λ e. sees-list t (subjectOf (t .config) k) r marks a (q .sees a) (p .views .scanned .records) (list e);
     }
+
+-- The subject's domain is the one that the command names.
+own-subject : (c : Config) (k : Command) → subjectOf c k .domain ≡ domainOf (profile k .own)
+unfolding subjectOf
+own-subject c (Create d guarantee quota placements limit) = refl
+own-subject c (ChangeCapacity d guarantee quota) = refl
+own-subject c (Delete d) = refl
+own-subject c (Erase d n) = refl
+own-subject c (Close d n) = refl
+own-subject c (Free d n) = refl
+own-subject c (WriteByPlacement d p start count) = refl
+own-subject c (WriteByBlock d n start count) = refl
+own-subject c (Read d address count expected) = refl
+own-subject c (Page d n) = refl
+own-subject c (Listing d which) = refl
+own-subject c (Pulse seconds) = refl
+
+pub sees-own : (t : Table) (k : Command) (marks : List ℕ) (r : Sight) → Sights t (subjectOf (t .config) k) marks r → Sees t (domainOf (profile k .own)) r
+sees-own t k marks r s = subst (λ (d : ℕ). Sees t d r) (own-subject (t .config) k) (s .sees)
 
 -- There is such a table.
 pub seen : (v : View) (command k : Command) (marks : List ℕ) (r : Sight) → Viewed v command marks → Sighting v k marks r

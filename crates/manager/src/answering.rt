@@ -13,8 +13,11 @@ use placements::Partial;
 use placements::complete;
 use placements::write_by_placement;
 use survey::View;
+use survey::first_verdict;
 use survey::sighted;
 use tables::Change;
+use tables::Verdict;
+use tables::refusal;
 use tables::unchanged;
 use transfers::read;
 use transfers::write_by_block;
@@ -22,7 +25,7 @@ ghost use mathlib.Core.Path.{_≡_};
 ghost use Rattle.manager.specs.Answering.{Answered, Viewed, changedPlace};
 
 // The command's answer, what it changes and what it has left to write, from what was read of the table. The store, the words and the
-// bytes are then as after it, but for what is left.
+// bytes are then as after it, but for what is left. The first questions are the same for all commands; its own function puts the others.
 pub(crate) fn answered(
     view: View,
     marks: &[u16],
@@ -35,46 +38,56 @@ pub(crate) fn answered(
     ensures { λ r. ⌜ Answered view command (now (marks .entry)) (now (store .entry)) (now (words .entry)) (now (bytes .entry)) r (now (store .exit)) (now (words .exit)) (now (bytes .exit)) ⌝ }
 {
     let sight = sighted(view);
-    match command {
-        Command::Create {
-            domain,
-            guarantee,
-            quota,
-            placements,
-            limit,
-        } => { complete(create(sight, domain, guarantee, quota, placements, limit)) }
-        Command::ChangeCapacity {
-            domain,
-            guarantee,
-            quota,
-        } => { complete(change_capacity(sight, domain, guarantee, quota)) }
-        Command::Delete { domain } => complete(delete(sight, domain)),
-        Command::Erase { domain, block } => complete(erase(sight, domain, block, store)),
-        Command::Close { domain, block } => complete(close(sight, domain, block)),
-        Command::Free { domain, block } => complete(free(sight, domain, block)),
-        Command::WriteByPlacement {
-            domain,
-            placement,
-            start,
-            count,
-        } => { write_by_placement(sight, domain, placement, start, count, store, words) }
-        Command::WriteByBlock {
-            domain,
-            block,
-            start,
-            count,
-        } => { complete(write_by_block(sight, domain, block, start, count, store, words)) }
-        Command::Read {
-            domain,
-            address,
-            count,
-            expected,
-        } => { complete(unchanged(read(sight, domain, address, count, expected, store, words))) }
-        Command::Page { domain, block } => complete(unchanged(page(sight, domain, block, bytes))),
-        Command::List { domain, listed } => {
-            complete(unchanged(list(sight, domain, listed, marks, bytes)))
-        }
-        Command::Pulse { seconds } => complete(pulse(sight, seconds)),
+    match first_verdict(sight, command, store.len()) {
+        Verdict::No(reason) => complete(refusal(reason)),
+        Verdict::Pass => match command {
+            Command::Create {
+                domain,
+                guarantee,
+                quota,
+                placements,
+                limit,
+            } => { complete(create(sight, domain, guarantee, quota, placements, limit)) }
+            Command::ChangeCapacity {
+                domain,
+                guarantee,
+                quota,
+            } => { complete(change_capacity(sight, domain, guarantee, quota)) }
+            Command::Delete { domain } => complete(delete(domain)),
+            Command::Erase { domain, block } => complete(erase(sight, domain, block, store)),
+            Command::Close { domain, block } => complete(close(sight, domain, block)),
+            Command::Free { domain, block } => complete(free(sight, domain, block)),
+            Command::WriteByPlacement {
+                domain,
+                placement,
+                start,
+                count,
+            } => { write_by_placement(sight, domain, placement, start, count, store, words) }
+            Command::WriteByBlock {
+                domain,
+                block,
+                start,
+                count,
+            } => { complete(write_by_block(sight, domain, block, start, count, store, words)) }
+            Command::Read {
+                domain,
+                address,
+                count,
+                expected,
+            } => {
+                complete(unchanged(read(sight, domain, address, count, expected, store, words)))
+            }
+            Command::Page { domain, block } => complete(unchanged(page(
+                sight,
+                domain,
+                block,
+                bytes,
+            ))),
+            Command::List { domain, listed } => {
+                complete(unchanged(list(sight, domain, listed, marks, bytes)))
+            }
+            Command::Pulse { seconds } => complete(pulse(seconds)),
+        },
     }
 }
 

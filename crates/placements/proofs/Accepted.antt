@@ -6,6 +6,7 @@ use mathlib.Core.Option.{some}
 use mathlib.Core.Path.{_≡_, refl, sym, ap, subst, _∙_}
 use native.Mathlib.Omega.{arith}
 use lib.Dec.{ltb}
+use lib.ListN.{length}
 use borrow.Author.Tests.{eqb-true, leb-true, ltb-true}
 use Rattle.geometry.proofs.Laws.Questions.{positive}
 use Rattle.geometry.proofs.Laws.Shape.{both, is-between}
@@ -28,18 +29,19 @@ use Rattle.rules.proofs.Drive.{overwritten-nothing}
 use Rattle.rules.proofs.Kept.Facts.{StateFacts}
 use Rattle.rules.proofs.Kept.Onwards.{OpenTo, open-to}
 use Rattle.rules.proofs.Kept.Tested.{facts-of}
-use Rattle.rules.proofs.Questions.{after, yes-in}
+use Rattle.rules.proofs.Questions.{yes-in}
 use Rattle.rules.specs.Blocks.{userAddresses, writtenByPlacement}
 use Rattle.rules.specs.Calls.{calling}
 use Rattle.rules.specs.Drive.{Drive, blockAt, domainAt, isPlacedState, openBlock, size}
-use Rattle.rules.specs.Effects.{effect, questions}
-use Rattle.rules.specs.Questions.{isCount, userAddressesFit}
-use Rattle.rules.specs.Soundness.{sound}
+use Rattle.rules.specs.Effects.{effect}
+use Rattle.rules.specs.Questions.{isCount, laterQuestions, userAddressesFit}
+use Rattle.survey.proofs.Outcomes.{begun-yes}
 use Rattle.survey.proofs.Seeing.{limits-seen}
+use Rattle.survey.specs.First.{Begins}
 use Rattle.survey.specs.Sight.{Sees, SeesPlacement, foundIn}
 use Rattle.survey.specs.declared.sight.Found.the-variants as found
 use Rattle.survey.specs.declared.sight.Sight.{Sight}
-use Rattle.tables.proofs.Answering.{accepted-call, sound-verdict}
+use Rattle.tables.proofs.Answering.{accepted-call, then-verdict}
 use Rattle.tables.specs.Changing.{changedBy, outcomeServed}
 use Rattle.tables.specs.Serving.{ServesCommand, answering, drive, served}
 use Rattle.tables.specs.declared.change.Outcome.{Outcome}
@@ -59,42 +61,45 @@ is-open-to t d p n e = subst (OpenTo (drive t []) d p (size t)) e (open-to (driv
 -- ---- The write
 
 -- Its user addresses can be told, and there is room for its words.
-pub place-fits : (t : Table) (entries room d p start : ℕ) (count : Adus) (x : Sight)
-    → firstNo (placementArguments x entries room d p count ++ placementState t x d start count) ≡ 0
+pub place-fits : (t : Table) (room d p start : ℕ) (count : Adus) (x : Sight)
+    → firstNo (placementArguments x room p count ++ placementState t x d start count) ≡ 0
     → (userAddressesFit start (count .0) ≡ true) × (count .0 ≤ room)
 unfolding positive placementArguments placementState
-place-fits t entries room d p start count x pass =
-    let qs = placementArguments x entries room d p count ++ placementState t x d start count in
+place-fits t room d p start count x pass =
+    let qs = placementArguments x room p count ++ placementState t x d start count in
     (yes-in 8 qs refl pass, leb-true (count .0) room (yes-in 7 qs refl pass))
 
 -- The placement is one of at most 16.
-pub few-placements : (t : Table) (entries room d p start : ℕ) (count : Adus) (x : Sight) → Sees t d x → x .sound ≡ true
-    → firstNo (placementArguments x entries room d p count ++ placementState t x d start count) ≡ 0 → p < 16
+pub few-placements : (t : Table) (entries room d p start : ℕ) (count : Adus) (x : Sight) → Sees t d x
+    → Begins t (WriteByPlacement d p start count) entries
+    → firstNo (placementArguments x room p count ++ placementState t x d start count) ≡ 0 → p < 16
 unfolding positive placementArguments placementState
-few-placements t entries room d p start count x s e pass =
-    let qs = placementArguments x entries room d p count ++ placementState t x d start count in
-    let between = is-between 1 16 d (yes-in 4 qs refl pass) in
-    let exists : domainAt t d .exists ≡ true = ap (λ (r : Domain). r .exists) (sym (s .same-domain)) ∙ yes-in 5 qs refl pass in
-    let few = facts-of (drive t []) (sym (s .tested) ∙ e) .domains d (between .least) (between .most) .existing exists .few-placements in
+few-placements t entries room d p start count x s first pass =
+    let k = WriteByPlacement d p start count in
+    let qs = placementArguments x room p count ++ placementState t x d start count in
+    let between = is-between 1 16 d (begun-yes 4 t k entries first) in
+    let few = facts-of (drive t []) (begun-yes 2 t k entries first) .domains d (between .least) (between .most) .existing (begun-yes 5 t k entries first) .few-placements in
     let same = ap (λ (r : Domain). r .placements) (s .same-domain) in
     omega (arith, ltb-true p (x .domain .placements) (both (ltb p (x .domain .placements)) (isCount count) (yes-in 6 qs refl pass) .0), same, few)
 
 -- A write whose questions are answered yes may be done, ..
-pub may-place : (t : Table) (entries room d p start : ℕ) (count : Adus) (x : Sight) → Sees t d x → SeesPlacement t d p x → x .sound ≡ true
-    → firstNo (placementArguments x entries room d p count ++ placementState t x d start count) ≡ 0
+pub may-place : (t : Table) (entries room d p start : ℕ) (count : Adus) (x : Sight) → Sees t d x → SeesPlacement t d p x
+    → Begins t (WriteByPlacement d p start count) entries → firstNo (placementArguments x room p count ++ placementState t x d start count) ≡ 0
     → MayPlace x entries d (count .0)
 unfolding positive placementArguments placementState
-may-place t entries room d p start count x s q e pass =
-    let qs = placementArguments x entries room d p count ++ placementState t x d start count in
+may-place t entries room d p start count x s q first pass =
+    let k = WriteByPlacement d p start count in
+    let whole = begun-yes 2 t k entries first in
+    let e : x .sound ≡ true = s .tested ∙ whole in
+    let qs = placementArguments x room p count ++ placementState t x d start count in
     let new = blocksIn (x .config) (count .0 - roomSeen x) in
     let counted = is-between 1 256 (count .0) (both (ltb p (x .domain .placements)) (isCount count) (yes-in 6 qs refl pass) .1) in
-    let whole = sym (s .tested) ∙ e in
     let opened : (n : ℕ) → x .found ≡ found.Block n → openBlock t d p ≡ some n = λ n f. sym (q .same-found e) ∙ ap foundIn f in
     let last : x .domain .last ≡ domainAt t d .last = ap (λ (r : Domain). r .last) (s .same-domain) in
     record {
       within = limits-seen t d x s e;
-      id = yes-in 4 qs refl pass;
-      all-entries = eqb-true entries (storeLength (x .config) .0) (yes-in 3 qs refl pass);
+      id = begun-yes 4 t k entries first;
+      all-entries = rw (s .same-config) (eqb-true entries (storeLength (t .config) .0) (begun-yes 3 t k entries first));
       some-written = counted .least;
       serials = omega (arith, last, leb-true (domainAt t d .last + new) 4294967295 (yes-in 12 qs refl pass));
       open-inside = λ n f. subst (λ (c : Config). n < c .blocks) (sym (s .same-config)) (is-open-to t d p n (opened n f) .0);
@@ -116,16 +121,17 @@ places t d p x s q e = record {
 }
 
 -- .. and this is what it hands back.
-pub place-done : (t : Table) (store words bytes : List ℕ) (d p start : ℕ) (count : Adus) (u : Table) (left filled : List ℕ) → sound t ≡ true
-    → firstNo (after 2 (questions (drive t store) (calling (WriteByPlacement d p start count) store words bytes))) ≡ 0
+pub place-done : (t : Table) (store words bytes : List ℕ) (d p start : ℕ) (count : Adus) (u : Table) (left filled : List ℕ)
+    → Begins t (WriteByPlacement d p start count) (length store)
+    → firstNo (laterQuestions (WriteByPlacement d p start count) (drive t store) (calling (WriteByPlacement d p start count) store words bytes)) ≡ 0
     → Wrote (writtenByPlacement d p (userAddresses start (count .0)) (drive t store)) words (drive u left) filled
     → ServesCommand t (WriteByPlacement d p start count) store words bytes (served (answering u Done) left filled bytes)
 unfolding effect
-place-done t store words bytes d p start count u left filled whole pass wrote =
+place-done t store words bytes d p start count u left filled first pass wrote =
     let v = drive t store in
     let call = calling (WriteByPlacement d p start count) store words bytes in
     accepted-call v call words bytes (served (answering u Done) left filled bytes) []
-    (sound-verdict v call whole ∙ pass)
+    (then-verdict v call first ∙ pass)
     refl (wrote .leaves) (wrote .fills) refl (sym (overwritten-nothing bytes))
 
 -- ---- An outcome that leaves nothing to write

@@ -5,7 +5,6 @@ use mathlib.Core.List.{List, _++_}
 use mathlib.Core.Option.{some}
 use mathlib.Core.Path.{_≡_, refl, sym, ap, _∙_}
 use lib.Dec.{ltb}
-use Rattle.geometry.proofs.Laws.Shape.{by-test}
 use Rattle.geometry.specs.Address.{isDomainId}
 use Rattle.geometry.specs.Questions.{firstNo}
 use Rattle.geometry.specs.Shape.{adusPerBlock}
@@ -19,12 +18,10 @@ use Rattle.placements.proofs.Stepping.{new-for}
 use Rattle.placements.specs.Asking.{mayOpenOf, mayOpenSeen, placementArguments, placementState}
 use Rattle.placements.specs.Onwards.{blocksIn}
 use Rattle.placements.specs.Placing.{roomOf, roomSeen}
-use Rattle.rules.proofs.Questions.{after}
 use Rattle.rules.specs.Blocks.{newBlocks, roomIn}
 use Rattle.rules.specs.Calls.{lending}
 use Rattle.rules.specs.Drive.{openBlock, openCount}
-use Rattle.rules.specs.Effects.{questions}
-use Rattle.rules.specs.Questions.{mayOpenFor}
+use Rattle.rules.specs.Questions.{laterQuestions, mayOpenFor}
 use Rattle.survey.specs.Sight.{Sees, SeesPlacement, foundIn}
 use Rattle.survey.specs.declared.sight.Found.{Found}
 use Rattle.survey.specs.declared.sight.Found.the-variants as found
@@ -61,11 +58,9 @@ module _ (t : Table) (d p : ℕ) (x : Sight) (s : Sees t d x) (q : SeesPlacement
       ap (λ (o : Found). mayOpenOf o (x .opened) (x .domain)) f
       ∙ sym (ap (λ o. mayOpenFor o t d) (sym (q .same-found e) ∙ ap foundIn f))
 
-  pub placement-asked : (store : List ℕ) (entries room bytes start : ℕ) (count : Adus)
-      → firstNo (placementArguments x entries room d p count ++ placementState t x d start count)
-      ≡ firstNo (after 2 (questions (drive t store) (lending (WriteByPlacement d p start count) entries room bytes)))
-  unfolding firstNo questions placementArguments placementState
-  placement-asked store entries room bytes start count =
-      rw (new-seen (count .0)) (by-test (isDomainId d)
-      (λ id. rw (may-open-seen id (x .found) refl, s .same-domain, s .same-config))
-      (λ id. rw (s .same-config, id)))
+  pub placement-asked : isDomainId d ≡ true → (store : List ℕ) (entries room bytes start : ℕ) (count : Adus)
+      → firstNo (placementArguments x room p count ++ placementState t x d start count)
+      ≡ firstNo (laterQuestions (WriteByPlacement d p start count) (drive t store) (lending (WriteByPlacement d p start count) entries room bytes))
+  unfolding firstNo placementArguments placementState
+  placement-asked id store entries room bytes start count =
+      rw (new-seen (count .0), may-open-seen id (x .found) refl, s .same-domain)

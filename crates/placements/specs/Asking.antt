@@ -2,10 +2,8 @@
 use Prim.Native.Nat.{ℕ, _-_}
 use mathlib.Core.Bool.{Bool, true, _&&_}
 use mathlib.Core.List.{List, [], _∷_}
-use lib.Dec.{eqb, leb, ltb}
-use Rattle.geometry.specs.Address.{isDomainId}
+use lib.Dec.{leb, ltb}
 use Rattle.geometry.specs.Questions.{Question, ask}
-use Rattle.geometry.specs.Shape.{storeLength}
 use Rattle.geometry.specs.declared.shape.Adus.{Adus}
 use Rattle.model.specs.declared.table.Domain.{Domain}
 use Rattle.model.specs.declared.table.Table.{Table}
@@ -17,13 +15,10 @@ use Rattle.survey.specs.declared.sight.Found.the-variants as found
 use Rattle.survey.specs.declared.sight.Sight.{Sight}
 use Rattle.tables.specs.Verdicts.{newBlocksQuestions}
 
--- 3 to 7, with so many entries in the store and room for so many words, ..
-unfoldable pub placementArguments : Sight → ℕ → ℕ → ℕ → ℕ → Adus → List Question
-placementArguments x entries room d p count =
-    ask 3 (eqb entries (storeLength (x .config) .0))
-    ∷ ask 4 (isDomainId d)
-    ∷ ask 5 (x .domain .exists)
-    ∷ ask 6 (ltb p (x .domain .placements) && isCount count)
+-- 6 and 7, with room for so many words, ..
+unfoldable pub placementArguments : Sight → ℕ → ℕ → Adus → List Question
+placementArguments x room p count =
+    ask 6 (ltb p (x .domain .placements) && isCount count)
     ∷ ask 7 (leb (count .0) room)
     ∷ []
 

@@ -11,7 +11,6 @@ use geometry::Adus;
 use model::Refusal;
 use survey::Found;
 use survey::Sight;
-use survey::store_verdict;
 use tables::Verdict;
 use tables::ask;
 use tables::is_count;
@@ -24,32 +23,22 @@ ghost use Prim.Native.Nat.{ℕ};
 ghost use lib.ListN.{length};
 ghost use Rattle.geometry.specs.Address.{isDomainId};
 ghost use Rattle.geometry.specs.Questions.{firstNo};
-ghost use Rattle.geometry.specs.Shape.{withinLimits};
 ghost use Rattle.model.specs.declared.command.Command.the-variants.{WriteByPlacement};
 ghost use Rattle.model.specs.declared.table.Table.{Table};
 ghost use Rattle.placements.specs.Asking.{mayOpenSeen, placementArguments, placementState};
 ghost use Rattle.placements.specs.Onwards.{Finishes, MayFinish};
 ghost use Rattle.rules.specs.Questions.{isCount};
+ghost use Rattle.survey.specs.First.{Begun};
 ghost use Rattle.survey.specs.Sight.{Seen, Sees, SeesPlacement};
 ghost use Rattle.tables.specs.Verdicts.{verdictNumber};
 
-// 3 to 7.
-fn placement_arguments(
-    sight: Sight,
-    domain: u64,
-    placement: u64,
-    count: Adus,
-    entries: usize,
-    room: usize,
-) -> Verdict
-    requires { ⌜ withinLimits (sight .config) ≡ true ⌝ }
-    ensures { λ r. ⌜ verdictNumber r ≡ firstNo (placementArguments sight entries room domain placement count) ⌝ }
+// 6 and 7.
+fn placement_arguments(sight: Sight, placement: u64, count: Adus, room: usize) -> Verdict
+    ensures { λ r. ⌜ verdictNumber r ≡ firstNo (placementArguments sight room placement count) ⌝ }
 {
     let d = sight.domain;
     let range = (placement < d.placements as u64) & is_count(count);
-    store_verdict(sight, domain, entries)
-        .and(range, Refusal::Range)
-        .and(count.0 <= room as u64, Refusal::Output)
+    ask(range, Refusal::Range).and(count.0 <= room as u64, Refusal::Output)
 }
 
 // 11. A block opens where the placement has none open: are fewer open than the limit?
@@ -84,13 +73,13 @@ fn placement_verdict(
     placement: u64,
     start: u64,
     count: Adus,
-    entries: usize,
     room: usize,
 ) -> Verdict
     requires { ⌜ Seen domain sight × (sight .sound ≡ true) ⌝ }
-    ensures { λ r. ⌜ ((t : Table) → Sees t domain sight → verdictNumber r ≡ firstNo (placementArguments sight entries room domain placement count ++ placementState t sight domain start count)) ⌝ }
+    requires { ⌜ isDomainId domain ≡ true ⌝ }
+    ensures { λ r. ⌜ ((t : Table) → Sees t domain sight → verdictNumber r ≡ firstNo (placementArguments sight room placement count ++ placementState t sight domain start count)) ⌝ }
 {
-    match placement_arguments(sight, domain, placement, count, entries, room) {
+    match placement_arguments(sight, placement, count, room) {
         Verdict::No(reason) => Verdict::No(reason),
         Verdict::Pass => placement_state(sight, domain, start, count),
     }
@@ -108,20 +97,10 @@ pub fn write_by_placement(
     words: &mut [u64],
 ) -> Partial
     requires { ⌜ ((t : Table) × Sees t domain sight × SeesPlacement t domain placement sight) ⌝ }
+    requires { ⌜ Begun (WriteByPlacement domain placement start count) (length (now store)) sight ⌝ }
     ensures { λ r. ⌜ MayFinish (sight .config) (length (now (store .exit))) (length (now (words .exit))) r × ((t : Table) (bytes : List ℕ) → Sees t domain sight → SeesPlacement t domain placement sight → Finishes t (WriteByPlacement domain placement start count) (now (store .entry)) (now (words .entry)) bytes r (now (store .exit)) (now (words .exit)) bytes) ⌝ }
 {
-    if !sight.sound {
-        return complete(refusal(Refusal::Unsound));
-    }
-    match placement_verdict(
-        sight,
-        domain,
-        placement,
-        start,
-        count,
-        store.len(),
-        words.len(),
-    ) {
+    match placement_verdict(sight, domain, placement, start, count, words.len()) {
         Verdict::No(reason) => complete(refusal(reason)),
         Verdict::Pass => {
             let p = placement as u8;

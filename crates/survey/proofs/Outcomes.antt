@@ -1,9 +1,13 @@
 -- What a command's outcome comes to in a table that is seen so: a refusal, or a change of the table.
 use Prim.Native.Nat.{ℕ}
-use mathlib.Core.Bool.{true, false}
-use mathlib.Core.List.{List, []}
-use mathlib.Core.Path.{_≡_, sym, ap, _∙_}
-use Rattle.geometry.specs.Questions.{firstNo, success}
+use mathlib.Core.Bool.{Bool, true, false}
+use mathlib.Core.List.{List, [], _∷_, _++_}
+use mathlib.Core.Path.{_≡_, refl, sym, ap, subst, _∙_}
+use lib.ListN.{length}
+use borrow.Author.Tests.{eqb-true}
+use Rattle.geometry.specs.Questions.{Question, ask, firstNo, success}
+use Rattle.geometry.specs.Shape.{storeLength, withinLimits}
+use Rattle.geometry.specs.declared.shape.Config.{Config}
 use Rattle.model.specs.Answers.{numberOf, outcomeOf}
 use Rattle.model.specs.declared.answer.Answer.{Answer}
 use Rattle.model.specs.declared.answer.Answer.the-variants.{Refused}
@@ -11,14 +15,16 @@ use Rattle.model.specs.declared.answer.Refusal.{Refusal}
 use Rattle.model.specs.declared.answer.Refusal.the-variants.{Unsound}
 use Rattle.model.specs.declared.command.Command.{Command}
 use Rattle.model.specs.declared.table.Table.{Table}
-use Rattle.rules.proofs.Questions.{after}
-use Rattle.rules.specs.Calls.{calling, profile}
-use Rattle.rules.specs.Effects.{Fills, changing, effect, questions}
+use Rattle.rules.proofs.Questions.{after, answerIn}
+use Rattle.rules.specs.Calls.{calling, domainOf, lending, profile}
+use Rattle.rules.specs.Effects.{Fills, changing, effect, questions, verdict}
+use Rattle.rules.specs.Questions.{domainQuestions, firstQuestions, laterQuestions, storeFits, storeQuestions}
 use Rattle.rules.specs.Soundness.{sound}
-use Rattle.survey.proofs.Seeing.{changed-nothing}
-use Rattle.survey.specs.Sight.{Sees}
+use Rattle.survey.proofs.Seeing.{changed-nothing, limits-seen}
+use Rattle.survey.specs.First.{Begins, Begun, firstAsked}
+use Rattle.survey.specs.Sight.{Seen, Sees}
 use Rattle.survey.specs.declared.sight.Sight.{Sight}
-use Rattle.tables.proofs.Answering.{later-no, table-call, unsound-call}
+use Rattle.tables.proofs.Answering.{first-refused, first-yes, later-no, table-call, then-changed, then-refused, then-verdict, unsound-call}
 use Rattle.tables.specs.Changing.{changedBy, leaving, outcomeServed}
 use Rattle.tables.specs.Serving.{ServesCommand, answering, drive, served}
 use Rattle.tables.specs.declared.change.Change.{Change}
@@ -50,3 +56,77 @@ pub changed-outcome : (t : Table) (d : ℕ) (x : Sight) (c : Command) (answer : 
     → ServesCommand t c store words bytes (served (outcomeServed t (record { answer = answer; change = change })) store words bytes)
 changed-outcome t d x c answer change left values store words bytes s e q becomes does says bytes-are =
     rw becomes (table-call (drive t store) (calling c store words bytes) words bytes values answer left (sym (s .tested) ∙ e) q does says bytes-are)
+
+-- ---- As new
+
+-- The first questions of a call ask for no more than the entries of the store.
+same-store : (uses : Bool) (t : Table) (c : Command) (entries words bytes : ℕ)
+    → storeQuestions uses t (lending c entries 0 0) ≡ storeQuestions uses t (lending c entries words bytes)
+same-store true t c entries words bytes = refl
+same-store false t c entries words bytes = refl
+
+first-asked : (t : Table) (c : Command) (store words bytes : List ℕ)
+    → firstNo (firstAsked t c (length store)) ≡ firstNo (firstQuestions (drive t store) (calling c store words bytes))
+first-asked t c store words bytes =
+    ap (λ (qs : List Question). firstNo (ask 2 (sound t) ∷ qs ++ domainQuestions t (profile c .own)))
+    (same-store (profile c .store) t c (length store) (length words) (length bytes))
+
+-- So where they are answered yes the first no is that of the later ones.
+pub begun-verdict : (t : Table) (c : Command) (store words bytes : List ℕ) → Begins t c (length store)
+    → verdict (drive t store) (calling c store words bytes) ≡ firstNo (laterQuestions c (drive t store) (calling c store words bytes))
+begun-verdict t c store words bytes first =
+    then-verdict (drive t store) (calling c store words bytes) (sym (first-asked t c store words bytes) ∙ first)
+
+-- One of the first questions is answered no, ..
+pub first-outcome : (t : Table) (c : Command) (r : Outcome) (reason : Refusal) (store words bytes : List ℕ)
+    → numberOf reason ≡ firstNo (firstAsked t c (length store)) → r ≡ leaving (Refused reason)
+    → ServesCommand t c store words bytes (served (outcomeServed t r) store words bytes)
+first-outcome t c r reason store words bytes q f =
+    rw (f, changed-nothing t) (first-refused (drive t store) (calling c store words bytes) words bytes reason (q ∙ first-asked t c store words bytes))
+
+-- .. or a later one is, ..
+pub then-outcome : (t : Table) (c : Command) (r : Outcome) (reason : Refusal) (store words bytes : List ℕ)
+    → Begins t c (length store)
+    → numberOf reason ≡ firstNo (laterQuestions c (drive t store) (calling c store words bytes)) → r ≡ leaving (Refused reason)
+    → ServesCommand t c store words bytes (served (outcomeServed t r) store words bytes)
+then-outcome t c r reason store words bytes first q f =
+    rw (f, changed-nothing t) (then-refused (drive t store) (calling c store words bytes) words bytes reason (sym (first-asked t c store words bytes) ∙ first) q)
+
+-- .. or all are answered yes, and the table is changed.
+pub change-outcome : (t : Table) (c : Command) (answer : Answer) (change : Change) (left : Table) (values store words bytes : List ℕ)
+    → Begins t c (length store)
+    → firstNo (laterQuestions c (drive t store) (calling c store words bytes)) ≡ 0
+    → changedBy change t ≡ left → effect (drive t store) (calling c store words bytes) ≡ changing values left (drive t store)
+    → outcomeOf answer ≡ success values
+    → Fills (profile c .bytes) t []
+    → ServesCommand t c store words bytes (served (outcomeServed t (record { answer = answer; change = change })) store words bytes)
+change-outcome t c answer change left values store words bytes first q becomes does says bytes-are =
+    rw becomes
+    (then-changed (drive t store) (calling c store words bytes) words bytes values answer left (sym (first-asked t c store words bytes) ∙ first) q does says bytes-are)
+
+-- ---- What a command may count on that has begun
+
+-- Each of its first questions is answered yes, ..
+pub begun-yes : (n : ℕ) (t : Table) (c : Command) (entries : ℕ) → Begins t c entries → answerIn n (firstAsked t c entries) ≡ true
+begun-yes n t c entries e = first-yes n (drive t []) (lending c entries 0 0) e
+
+-- .. so that what is seen is sound, ..
+pub begun-sound : (c : Command) (entries : ℕ) (x : Sight) → Seen (domainOf (profile c .own)) x → Begun c entries x → x .sound ≡ true
+begun-sound c entries x seen begun = seen .1 .tested ∙ begun-yes 2 (seen .0) c entries (begun (seen .0) (seen .1))
+
+-- .. and within the limits.
+pub begun-limits : (c : Command) (entries : ℕ) (x : Sight) → Seen (domainOf (profile c .own)) x → Begun c entries x
+    → withinLimits (x .config) ≡ true
+begun-limits c entries x seen begun =
+    limits-seen (seen .0) (domainOf (profile c .own)) x (seen .1) (begun-sound c entries x seen begun)
+
+-- The store that it uses has all its entries.
+pub begun-entries : (c : Command) (entries : ℕ) (x : Sight) → profile c .store ≡ true → Seen (domainOf (profile c .own)) x → Begun c entries x
+    → entries ≡ storeLength (x .config) .0
+begun-entries c entries x uses seen begun =
+    let t = seen .0 in
+    let k = lending c entries 0 0 in
+    let fits : storeFits t k ≡ true =
+    subst (λ (b : Bool). answerIn 3 (ask 2 (sound t) ∷ storeQuestions b t k ++ domainQuestions t (profile c .own)) ≡ true) uses
+    (begun-yes 3 t c entries (begun t (seen .1))) in
+    eqb-true entries (storeLength (t .config) .0) fits ∙ ap (λ (z : Config). storeLength z .0) (sym (seen .1 .same-config))

@@ -1,6 +1,7 @@
 // What every command begins with: a scan of the blocks and one of the domains test whether the table is sound and count each
 // domain's blocks; what the command is about is then looked up.
 mod clauses;
+mod first;
 mod free;
 mod listing;
 mod marks;
@@ -9,6 +10,7 @@ mod scan;
 mod sight;
 
 pub use clauses::holder_index;
+pub use first::first_verdict;
 pub use free::Candidate;
 pub use free::choose;
 pub use free::no_candidate;

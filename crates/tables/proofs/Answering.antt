@@ -6,7 +6,7 @@ use mathlib.Core.Path.{_≡_, refl, sym, ap, _∙_}
 use native.Mathlib.Omega.{arith}
 use lib.Dec.{ltb}
 use borrow.Author.Tests.{ltb-true, ne-eqb}
-use Rattle.geometry.proofs.Laws.Questions.{answered-no, answered-yes, positive}
+use Rattle.geometry.proofs.Laws.Questions.{answered-no, answered-yes, positive, then-asked, then-not}
 use Rattle.geometry.proofs.Laws.Shape.{both}
 use Rattle.geometry.specs.Questions.{Question, ask, firstNo, success}
 use Rattle.tables.proofs.Refusals.{first-stays, refusal-positive}
@@ -18,10 +18,11 @@ use Rattle.model.specs.declared.answer.Refusal.{Refusal}
 use Rattle.model.specs.declared.answer.Refusal.the-variants.{Unsound}
 use Rattle.model.specs.declared.table.Table.{Table}
 use Rattle.rules.proofs.Drive.{overwritten-nothing}
-use Rattle.rules.proofs.Questions.{after, before, from, in-parts, none-zero, positive-after, positive-before}
-use Rattle.rules.specs.Calls.{Call, profileOf}
+use Rattle.rules.proofs.Questions.{after, answerIn, before, from, in-parts, none-zero, positive-after, positive-before, yes-in}
+use Rattle.rules.specs.Calls.{Call, Own, existing, missing, nobody, profileOf}
 use Rattle.rules.specs.Drive.{Drive, overwritten}
-use Rattle.rules.specs.Effects.{Effect, Fills, Served, Serves, accepted, changing, effect, questions, step, verdict, wordsFilled}
+use Rattle.rules.specs.Effects.{Effect, Fills, Served, Serves, accepted, askedThen, changing, effect, questions, step, verdict, wordsFilled}
+use Rattle.rules.specs.Questions.{domainQuestions, firstQuestions, storeQuestions}
 use Rattle.rules.specs.Soundness.{sound}
 
 -- ---- Questions in parts
@@ -80,6 +81,35 @@ one-by-one qs p = chain-then 0 qs p
 -- .. also behind those of another.
 pub one-by-one-after : (xs ys : List Question) → positive xs ≡ true → positive ys ≡ true → chain (firstNo xs) ys ≡ firstNo (xs ++ ys)
 one-by-one-after xs ys p q = chain-then (firstNo xs) ys q ∙ sym (first-append xs ys p)
+
+-- ---- What is asked first, and then
+
+-- None of the first questions has the number 0.
+positive-first : (t : Table) (k : Call) (uses : Bool) (own : Own) → positive (ask 2 (sound t) ∷ storeQuestions uses t k ++ domainQuestions t own) ≡ true
+unfolding positive
+positive-first t k true (existing d) = refl
+positive-first t k true (missing d) = refl
+positive-first t k true nobody = refl
+positive-first t k false (existing d) = refl
+positive-first t k false (missing d) = refl
+positive-first t k false nobody = refl
+
+first-positive : (v : Drive) (k : Call) → positive (firstQuestions v k) ≡ true
+first-positive v k = positive-first (v .table) k (profileOf (k .asks) .store) (profileOf (k .asks) .own)
+
+-- Where they are answered yes, each is, ..
+pub first-yes : (n : ℕ) (v : Drive) (k : Call) → firstNo (firstQuestions v k) ≡ 0 → answerIn n (firstQuestions v k) ≡ true
+first-yes n v k e = yes-in n (firstQuestions v k) (first-positive v k) e
+
+-- .. and the first no of all is that of the later ones.
+pub then-verdict : (v : Drive) (k : Call) → firstNo (firstQuestions v k) ≡ 0 → verdict v k ≡ firstNo (askedThen (k .asks) v k)
+unfolding questions
+then-verdict v k e = then-asked (firstQuestions v k) (askedThen (k .asks) v k) (first-positive v k) e
+
+first-verdict : (v : Drive) (k : Call) (reason : Refusal) → numberOf reason ≡ firstNo (firstQuestions v k) → verdict v k ≡ numberOf reason
+unfolding questions
+first-verdict v k reason e =
+    then-not (firstQuestions v k) (askedThen (k .asks) v k) (numberOf reason) (refusal-positive reason) (sym e)
 
 -- Question 2 comes first.
 unsound-verdict : (v : Drive) (k : Call) → sound (v .table) ≡ false → verdict v k ≡ 2
@@ -166,6 +196,34 @@ pub table-call : (v : Drive) (k : Call) (words bytes values : List ℕ) (answer 
 table-call v k words bytes values answer after-it s e does says bytes-are =
     accepted-call v k words bytes (served (answering after-it answer) (v .store) words bytes) []
     (sound-verdict v k s ∙ e)
+    (says ∙ ap (λ (x : Effect). success (x .values)) (sym does))
+    (ap (λ (x : Effect). x .drive) (sym does))
+    (sym (overwritten-nothing words) ∙ ap (λ (x : Effect). overwritten 0 (x .words) words) (sym does))
+    bytes-are
+    (sym (overwritten-nothing bytes))
+
+-- ---- As new
+
+-- A call is refused by one of the first questions, or by a later one.
+pub first-refused : (v : Drive) (k : Call) (words bytes : List ℕ) (reason : Refusal) → numberOf reason ≡ firstNo (firstQuestions v k)
+    → Serves v k words bytes (served (refusing (v .table) reason) (v .store) words bytes)
+first-refused v k words bytes reason e = refused-call v k words bytes reason (first-verdict v k reason e)
+
+pub then-refused : (v : Drive) (k : Call) (words bytes : List ℕ) (reason : Refusal) → firstNo (firstQuestions v k) ≡ 0
+    → numberOf reason ≡ firstNo (askedThen (k .asks) v k)
+    → Serves v k words bytes (served (refusing (v .table) reason) (v .store) words bytes)
+then-refused v k words bytes reason first e = refused-call v k words bytes reason (then-verdict v k first ∙ sym e)
+
+-- An accepted call that fills nothing and leaves the store: its answer and its table.
+pub then-changed : (v : Drive) (k : Call) (words bytes values : List ℕ) (answer : Answer) (after-it : Table) → firstNo (firstQuestions v k) ≡ 0
+    → firstNo (askedThen (k .asks) v k) ≡ 0
+    → effect v k ≡ changing values after-it v
+    → outcomeOf answer ≡ success values
+    → Fills (profileOf (k .asks) .bytes) (v .table) []
+    → Serves v k words bytes (served (answering after-it answer) (v .store) words bytes)
+then-changed v k words bytes values answer after-it first e does says bytes-are =
+    accepted-call v k words bytes (served (answering after-it answer) (v .store) words bytes) []
+    (then-verdict v k first ∙ e)
     (says ∙ ap (λ (x : Effect). success (x .values)) (sym does))
     (ap (λ (x : Effect). x .drive) (sym does))
     (sym (overwritten-nothing words) ∙ ap (λ (x : Effect). overwritten 0 (x .words) words) (sym does))

@@ -4,11 +4,12 @@ use mathlib.Core.Bool.{true, _&&_}
 use mathlib.Core.List.{List, [], _++_}
 use mathlib.Core.Path.{_≡_, refl, sym, _∙_}
 use lib.Dec.{leb}
-use borrow.Author.Tests.{eqb-true, leb-true, ltb-true}
-use Rattle.geometry.proofs.Laws.Questions.{positive}
+use lib.ListN.{length}
+use borrow.Author.Tests.{leb-true, ltb-true}
+use Rattle.geometry.proofs.Laws.Questions.{positive, then-asked, then-not}
 use Rattle.geometry.proofs.Laws.Shape.{both, by-test, is-between}
-use Rattle.geometry.specs.Address.{fieldsOf, isBlock, isOffset}
-use Rattle.geometry.specs.Questions.{firstNo}
+use Rattle.geometry.specs.Address.{fieldsOf, isBlock, isDomainId, isOffset}
+use Rattle.geometry.specs.Questions.{Question, firstNo}
 use Rattle.geometry.specs.Shape.{adusPerBlock, storeLength, withinLimits}
 use Rattle.geometry.specs.declared.address.FlashAddress.{FlashAddress}
 use Rattle.geometry.specs.declared.shape.Adus.{Adus}
@@ -22,16 +23,18 @@ use Rattle.model.specs.declared.block.Block.{Block}
 use Rattle.model.specs.declared.command.Command.the-variants.{Read, WriteByBlock}
 use Rattle.model.specs.declared.table.Table.{Table}
 use Rattle.rules.proofs.Drive.{overwritten-nothing}
-use Rattle.rules.proofs.Questions.{after, before, from, yes-in}
+use Rattle.rules.proofs.Questions.{before, from, yes-in}
 use Rattle.rules.specs.Blocks.{matches, stored, userAddresses, writtenInto}
 use Rattle.rules.specs.Calls.{calling}
 use Rattle.rules.specs.Drive.{Drive, overwritten, size, withBlock}
-use Rattle.rules.specs.Effects.{Serves, effect, questions}
-use Rattle.rules.specs.Questions.{isCount, userAddressesFit}
-use Rattle.rules.specs.Soundness.{sound}
+use Rattle.rules.specs.Effects.{Serves, effect}
+use Rattle.rules.specs.Questions.{isCount, laterQuestions, userAddressesFit}
+use Rattle.survey.proofs.Outcomes.{begun-yes}
 use Rattle.survey.proofs.Seeing.{changed-block, sound-limits}
+use Rattle.survey.specs.First.{Begins}
 use Rattle.survey.specs.declared.sight.Sight.{Sight}
-use Rattle.tables.proofs.Answering.{accepted-call, first-part, later-no, second-part, sound-verdict}
+use Rattle.tables.proofs.Answering.{accepted-call, then-refused, then-verdict}
+use Rattle.tables.proofs.Refusals.{refusal-positive}
 use Rattle.tables.specs.Changing.{blockChange, outcomeServed}
 use Rattle.tables.specs.Serving.{ServesCommand, answering, drive, refusing, served}
 use Rattle.transfers.specs.Transfers.{MayWriteIn, ReadsStretch, Wrote, readArguments, readState, writeArguments, writeState}
@@ -39,45 +42,45 @@ use Rattle.transfers.specs.Transfers.{MayWriteIn, ReadsStretch, Wrote, r
 -- ---- Write by block
 
 -- A write whose questions are answered yes may be done, ..
-pub may-write : (x : Sight) (entries room d n start : ℕ) (count : Adus) → withinLimits (x .config) ≡ true
-    → firstNo (writeArguments x entries room d n count ++ writeState x d start count) ≡ 0
+pub may-write : (x : Sight) (entries room d n start : ℕ) (count : Adus) → withinLimits (x .config) ≡ true → isDomainId d ≡ true
+    → entries ≡ storeLength (x .config) .0 → firstNo (writeArguments x room n count ++ writeState x d start count) ≡ 0
     → MayWriteIn (x .config) entries d n (x .block) (count .0)
 unfolding positive writeArguments writeState
-may-write x entries room d n start count within e =
-    let qs = writeArguments x entries room d n count ++ writeState x d start count in
+may-write x entries room d n start count within known all e =
+    let qs = writeArguments x room n count ++ writeState x d start count in
     let range = both (isBlock (x .config) n) (isCount count) (yes-in 6 qs refl e) in
     record {
       limits = within;
-      id = yes-in 4 qs refl e;
+      id = known;
       inside = ltb-true n (x .config .blocks) (range .0);
-      entries = eqb-true entries (storeLength (x .config) .0) (yes-in 3 qs refl e);
+      entries = all;
       some-written = is-between 1 256 (count .0) (range .1) .least;
       fits = leb-true (x .block .written .0 + count .0) (adusPerBlock (x .config) .0) (yes-in 15 qs refl e);
     }
 
 -- .. its user addresses can be told, and there is room for its words.
-pub write-fits : (x : Sight) (entries room d n start : ℕ) (count : Adus)
-    → firstNo (writeArguments x entries room d n count ++ writeState x d start count) ≡ 0
+pub write-fits : (x : Sight) (room d n start : ℕ) (count : Adus)
+    → firstNo (writeArguments x room n count ++ writeState x d start count) ≡ 0
     → (userAddressesFit start (count .0) ≡ true) × (count .0 ≤ room)
 unfolding positive writeArguments writeState
-write-fits x entries room d n start count e =
-    let qs = writeArguments x entries room d n count ++ writeState x d start count in
+write-fits x room d n start count e =
+    let qs = writeArguments x room n count ++ writeState x d start count in
     (yes-in 8 qs refl e, leb-true (count .0) room (yes-in 7 qs refl e))
 
 -- The block's new record and what was put into the store and the words are what it hands back.
-pub write-done : (t : Table) (store words bytes : List ℕ) (d n start : ℕ) (count : Adus) (b : Block) (left filled : List ℕ) → sound t ≡ true
-    → n < size t
-    → firstNo (after 2 (questions (drive t store) (calling (WriteByBlock d n start count) store words bytes))) ≡ 0
+pub write-done : (t : Table) (store words bytes : List ℕ) (d n start : ℕ) (count : Adus) (b : Block) (left filled : List ℕ)
+    → Begins t (WriteByBlock d n start count) (length store) → n < size t
+    → firstNo (laterQuestions (WriteByBlock d n start count) (drive t store) (calling (WriteByBlock d n start count) store words bytes)) ≡ 0
     → Wrote (writtenInto d n (userAddresses start (count .0)) (drive t store)) words (drive (withBlock n b t) left) filled
     → ServesCommand t (WriteByBlock d n start count) store words bytes
     (served (outcomeServed t (record { answer = Done; change = blockChange n b })) left filled bytes)
 unfolding effect
-write-done t store words bytes d n start count b left filled whole l e wrote =
+write-done t store words bytes d n start count b left filled first l e wrote =
     let v = drive t store in
     let call = calling (WriteByBlock d n start count) store words bytes in
-    rw (changed-block t n b (sound-limits t whole) l)
+    rw (changed-block t n b (sound-limits t (begun-yes 2 t (WriteByBlock d n start count) (length store) first)) l)
     (accepted-call v call words bytes (served (answering (withBlock n b t) Done) left filled bytes) []
-    (sound-verdict v call whole ∙ e)
+    (then-verdict v call first ∙ e)
     refl (wrote .leaves) (wrote .fills) refl (sym (overwritten-nothing bytes)))
 
 -- ---- Read
@@ -93,43 +96,46 @@ pub record MayRead (c : Config) (length room : ℕ) (a : FlashAddress) (count ex
 
 -- Where every question but the last is answered yes, it may.
 pub may-read : (x : Sight) (entries room d : ℕ) (a : FlashAddress) (count : Adus) (expected : ℕ) → withinLimits (x .config) ≡ true
-    → firstNo (readArguments x entries room d a count ++ readState x d a count expected) ≡ 0
+    → entries ≡ storeLength (x .config) .0 → firstNo (readArguments x room a count ++ readState x d a count expected) ≡ 0
     → MayRead (x .config) entries room a (count .0) expected
 unfolding positive readArguments readState
-may-read x entries room d a count expected within e =
-    let qs = readArguments x entries room d a count ++ readState x d a count expected in
+may-read x entries room d a count expected within all e =
+    let qs = readArguments x room a count ++ readState x d a count expected in
     let range = both (isBlock (x .config) (a .block) && isOffset (x .config) (a .offset)) (isCount count) (yes-in 6 qs refl e) in
     let end = a .offset .0 + count .0 in
     record {
       limits = within;
       inside = ltb-true (a .block) (x .config .blocks) (both (isBlock (x .config) (a .block)) (isOffset (x .config) (a .offset)) (range .0) .0);
-      entries = eqb-true entries (storeLength (x .config) .0) (yes-in 3 qs refl e);
+      entries = all;
       extent = leb-true end (adusPerBlock (x .config) .0) (both (leb end (x .block .written .0)) (leb end (adusPerBlock (x .config) .0)) (yes-in 15 qs refl e) .1);
       words = leb-true (count .0) room (yes-in 7 qs refl e);
       fits = yes-in 8 qs refl e;
     }
 
--- A no before question 16 stays.
-pub read-no : (v : Drive) (words bytes : List ℕ) (d address : ℕ) (count : Adus) (expected : ℕ) (reason : Refusal) → sound (v .table) ≡ true
-    → numberOf reason ≡ firstNo (before 16 (after 2 (questions v (calling (Read d address count expected) (v .store) words bytes))))
-    → Serves v (calling (Read d address count expected) (v .store) words bytes) words bytes (served (refusing (v .table) reason) (v .store) words bytes)
-read-no v words bytes d address count expected reason whole e =
-    let call = calling (Read d address count expected) (v .store) words bytes in
-    later-no v call words bytes reason whole (first-part v call 16 reason e)
+module _ (v : Drive) (words bytes : List ℕ) (d address : ℕ) (count : Adus) (expected : ℕ)
+    (first : Begins (v .table) (Read d address count expected) (length (v .store))) where
+  -- What a Read is asked then.
+  abbrev asked : List Question
+  asked = laterQuestions (Read d address count expected) v (calling (Read d address count expected) (v .store) words bytes)
 
-module _ (v : Drive) (words bytes : List ℕ) (d address : ℕ) (count : Adus) (expected : ℕ) (whole : sound (v .table) ≡ true)
-    (e : firstNo (before 16 (after 2 (questions v (calling (Read d address count expected) (v .store) words bytes)))) ≡ 0) where
+  -- A no before question 16 stays.
+  pub read-no : (reason : Refusal) → numberOf reason ≡ firstNo (before 16 asked)
+      → Serves v (calling (Read d address count expected) (v .store) words bytes) words bytes (served (refusing (v .table) reason) (v .store) words bytes)
+  read-no reason e =
+      then-refused v (calling (Read d address count expected) (v .store) words bytes) words bytes reason first
+      (sym (then-not (before 16 asked) (from 16 asked) (numberOf reason) (refusal-positive reason) (sym e)))
+
   -- Without one, question 16 alone is left.
-  last-question : firstNo (after 2 (questions v (calling (Read d address count expected) (v .store) words bytes)))
-      ≡ firstNo (from 16 (after 2 (questions v (calling (Read d address count expected) (v .store) words bytes))))
-  last-question = second-part v (calling (Read d address count expected) (v .store) words bytes) 16 e
+  last-question : firstNo (before 16 asked) ≡ 0 → firstNo asked ≡ firstNo (from 16 asked)
+  unfolding positive
+  last-question e = then-asked (before 16 asked) (from 16 asked) refl e
 
   -- Where the stretch matches it is what a Read hands back, and else the Read is refused.
-  pub stretch-read : (answer : Answer) (filled : List ℕ)
+  pub stretch-read : firstNo (before 16 asked) ≡ 0 → (answer : Answer) (filled : List ℕ)
       → ReadsStretch expected (stored v (fieldsOf (v .table .config) address) (count .0)) words answer filled
       → Serves v (calling (Read d address count expected) (v .store) words bytes) words bytes (served (answering (v .table) answer) (v .store) filled bytes)
-  unfolding questions firstNo effect
-  stretch-read answer filled r =
+  unfolding firstNo effect
+  stretch-read e answer filled r =
       let call = calling (Read d address count expected) (v .store) words bytes in
       let stretch = stored v (fieldsOf (v .table .config) address) (count .0) in
       by-test (matches expected stretch)
@@ -137,8 +143,8 @@ module _ (v : Drive) (words bytes : List ℕ) (d address : ℕ) (count : Adus) (
       let fills : filled ≡ overwritten 0 stretch words = r .fills ∙ rw m in
       rw (says, fills)
       (accepted-call v call words bytes (served (answering (v .table) Done) (v .store) (overwritten 0 stretch words) bytes) []
-      (sound-verdict v call whole ∙ last-question ∙ rw m)
+      (then-verdict v call first ∙ last-question e ∙ rw m)
       refl refl refl refl (sym (overwritten-nothing bytes))))
       (λ m. let says : answer ≡ Refused Mismatch = r .answers ∙ rw m in
       let fills : filled ≡ words = r .fills ∙ rw m in
-      rw (says, fills) (later-no v call words bytes Mismatch whole (sym (last-question ∙ rw m))))
+      rw (says, fills) (then-refused v call words bytes Mismatch first (sym (last-question e ∙ rw m))))

@@ -15,10 +15,10 @@ use Rattle.model.specs.declared.command.Command.the-variants.{Read, WriteByBloc
 use Rattle.model.specs.declared.table.Table.{Table}
 use Rattle.rules.proofs.Kept.Facts.{written-most}
 use Rattle.rules.proofs.Kept.Tested.{facts-of}
-use Rattle.rules.proofs.Questions.{after, before}
+use Rattle.rules.proofs.Questions.{before}
 use Rattle.rules.specs.Calls.{lending}
 use Rattle.rules.specs.Drive.{blockAt, size}
-use Rattle.rules.specs.Effects.{questions}
+use Rattle.rules.specs.Questions.{laterQuestions}
 use Rattle.rules.specs.Soundness.{sound}
 use Rattle.survey.specs.Sight.{Sees, SeesBlock}
 use Rattle.survey.specs.declared.sight.Sight.{Sight}
@@ -28,11 +28,11 @@ use Rattle.transfers.specs.Transfers.{readArguments, readState, writeArg
 -- The record that is seen is that of a block of the drive; of another number the range is asked first.
 pub write-asked : (t : Table) (store : List ℕ) (entries room bytes d n start : ℕ) (count : Adus) (x : Sight)
     → Sees t d x → SeesBlock t n x → x .sound ≡ true
-    → firstNo (writeArguments x entries room d n count ++ writeState x d start count)
-    ≡ firstNo (after 2 (questions (drive t store) (lending (WriteByBlock d n start count) entries room bytes)))
-unfolding firstNo questions writeArguments writeState
+    → firstNo (writeArguments x room n count ++ writeState x d start count)
+    ≡ firstNo (laterQuestions (WriteByBlock d n start count) (drive t store) (lending (WriteByBlock d n start count) entries room bytes))
+unfolding firstNo writeArguments writeState
 write-asked t store entries room bytes d n start count x s b e =
-    rw (s .same-domain, s .same-config) (by-test (isBlock (t .config) n)
+    rw (s .same-config) (by-test (isBlock (t .config) n)
     (λ q. rw (b .same-block e (ltb-true n (size t) q)))
     (λ q. rw q))
 
@@ -47,12 +47,12 @@ ends-inside t store n end whole l =
 
 pub read-asked : (t : Table) (store : List ℕ) (entries room bytes d address : ℕ) (count : Adus) (expected : ℕ) (x : Sight)
     → Sees t d x → SeesBlock t (fieldsOf (t .config) address .block) x → x .sound ≡ true
-    → firstNo (readArguments x entries room d (fieldsOf (t .config) address) count ++ readState x d (fieldsOf (t .config) address) count expected)
-    ≡ firstNo (before 16 (after 2 (questions (drive t store) (lending (Read d address count expected) entries room bytes))))
-unfolding firstNo questions readArguments readState
+    → firstNo (readArguments x room (fieldsOf (t .config) address) count ++ readState x d (fieldsOf (t .config) address) count expected)
+    ≡ firstNo (before 16 (laterQuestions (Read d address count expected) (drive t store) (lending (Read d address count expected) entries room bytes)))
+unfolding firstNo readArguments readState
 read-asked t store entries room bytes d address count expected x s b e =
     let a = fieldsOf (t .config) address in
-    rw (s .same-domain, s .same-config) (by-test (isBlock (t .config) (a .block))
+    rw (s .same-config) (by-test (isBlock (t .config) (a .block))
     (λ q. let l = ltb-true (a .block) (size t) q in
     rw (b .same-block e l, ends-inside t store (a .block) (a .offset .0 + count .0) (sym (s .tested) ∙ e) l))
     (λ q. rw q))

@@ -21,13 +21,10 @@ use Rattle.survey.specs.declared.sight.Sight.{Sight}
 
 -- ---- The questions, of what is seen of the table
 
--- A Write by block: 3 to 7, with so many entries and room for so many words, ..
-unfoldable pub writeArguments : Sight → ℕ → ℕ → ℕ → ℕ → Adus → List Question
-writeArguments x entries room d n count =
-    ask 3 (eqb entries (storeLength (x .config) .0))
-    ∷ ask 4 (isDomainId d)
-    ∷ ask 5 (x .domain .exists)
-    ∷ ask 6 (isBlock (x .config) n && isCount count)
+-- A Write by block: 6 and 7, with room for so many words, ..
+unfoldable pub writeArguments : Sight → ℕ → ℕ → Adus → List Question
+writeArguments x room n count =
+    ask 6 (isBlock (x .config) n && isCount count)
     ∷ ask 7 (leb (count .0) room)
     ∷ []
 
@@ -40,13 +37,10 @@ writeState x d start count =
     ∷ ask 15 (leb (x .block .written .0 + count .0) (adusPerBlock (x .config) .0))
     ∷ []
 
--- A Read: 3 to 7, ..
-unfoldable pub readArguments : Sight → ℕ → ℕ → ℕ → FlashAddress → Adus → List Question
-readArguments x entries room d a count =
-    ask 3 (eqb entries (storeLength (x .config) .0))
-    ∷ ask 4 (isDomainId d)
-    ∷ ask 5 (x .domain .exists)
-    ∷ ask 6 (isBlock (x .config) (a .block) && isOffset (x .config) (a .offset) && isCount count)
+-- A Read: 6 and 7, ..
+unfoldable pub readArguments : Sight → ℕ → FlashAddress → Adus → List Question
+readArguments x room a count =
+    ask 6 (isBlock (x .config) (a .block) && isOffset (x .config) (a .offset) && isCount count)
     ∷ ask 7 (leb (count .0) room)
     ∷ []
 

@@ -10,7 +10,6 @@ use geometry::word_fields;
 use model::Answer;
 use model::Refusal;
 use survey::Sight;
-use survey::store_verdict;
 use tables::Verdict;
 use tables::ask;
 use tables::ends_within;
@@ -27,29 +26,21 @@ ghost use Rattle.geometry.specs.Shape.{withinLimits};
 ghost use Rattle.model.specs.declared.command.Command.the-variants.{Read};
 ghost use Rattle.model.specs.declared.table.Table.{Table};
 ghost use Rattle.rules.specs.Questions.{isCount, userAddressesFit};
+ghost use Rattle.survey.specs.First.{Begun};
 ghost use Rattle.survey.specs.Sight.{Seen, Sees, SeesBlock};
 ghost use Rattle.tables.specs.Serving.{ServesCommand, answering, served};
 ghost use Rattle.tables.specs.Verdicts.{verdictNumber};
 ghost use Rattle.transfers.specs.Transfers.{ReadsStretch, readArguments, readState};
 
-// 3 to 7.
-fn read_arguments(
-    sight: Sight,
-    domain: u64,
-    address: FlashAddress,
-    count: Adus,
-    entries: usize,
-    room: usize,
-) -> Verdict
+// 6 and 7.
+fn read_arguments(sight: Sight, address: FlashAddress, count: Adus, room: usize) -> Verdict
     requires { ⌜ withinLimits (sight .config) ≡ true ⌝ }
-    ensures { λ r. ⌜ verdictNumber r ≡ firstNo (readArguments sight entries room domain address count) ⌝ }
+    ensures { λ r. ⌜ verdictNumber r ≡ firstNo (readArguments sight room address count) ⌝ }
 {
     let config = sight.config;
     let offset = address.offset;
     let inside = (address.block < config.blocks) & (offset.0 < adus_per_block(config).0);
-    store_verdict(sight, domain, entries)
-        .and(inside & is_count(count), Refusal::Range)
-        .and(count.0 <= room as u64, Refusal::Output)
+    ask(inside & is_count(count), Refusal::Range).and(count.0 <= room as u64, Refusal::Output)
 }
 
 // 8 to 15. What is read ends within what is written, and within the block.
@@ -81,13 +72,12 @@ fn read_verdict(
     address: FlashAddress,
     count: Adus,
     expected: u64,
-    entries: usize,
     room: usize,
 ) -> Verdict
     requires { ⌜ withinLimits (sight .config) ≡ true ⌝ }
-    ensures { λ r. ⌜ verdictNumber r ≡ firstNo (readArguments sight entries room domain address count ++ readState sight domain address count expected) ⌝ }
+    ensures { λ r. ⌜ verdictNumber r ≡ firstNo (readArguments sight room address count ++ readState sight domain address count expected) ⌝ }
 {
-    match read_arguments(sight, domain, address, count, entries, room) {
+    match read_arguments(sight, address, count, room) {
         Verdict::No(reason) => Verdict::No(reason),
         Verdict::Pass => read_state(sight, domain, address, count, expected),
     }
@@ -117,15 +107,12 @@ pub fn read(
     store: &[u64],
     words: &mut [u64],
 ) -> Answer
-    requires { ⌜ Seen domain sight ⌝ }
+    requires { ⌜ Seen domain sight × Begun (Read domain address count expected) (length (now store)) sight ⌝ }
     ensures { λ r. ⌜ ((t : Table) (bytes : List ℕ) → Sees t domain sight → SeesBlock t (fieldsOf (t .config) address .block) sight → ServesCommand t (Read domain address count expected) (now (store .entry)) (now (words .entry)) bytes (served (answering t r) (now (store .entry)) (now (words .exit)) bytes)) ⌝ }
 {
-    if !sight.sound {
-        return Answer::Refused(Refusal::Unsound);
-    }
     let config = sight.config;
     let a = word_fields(config, address);
-    match read_verdict(sight, domain, a, count, expected, store.len(), words.len()) {
+    match read_verdict(sight, domain, a, count, expected, words.len()) {
         Verdict::No(reason) => Answer::Refused(reason),
         Verdict::Pass => {
             let offset = a.offset;

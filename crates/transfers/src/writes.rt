@@ -13,7 +13,6 @@ use model::Answer;
 use model::Block;
 use model::Refusal;
 use survey::Sight;
-use survey::store_verdict;
 use tables::Outcome;
 use tables::Verdict;
 use tables::ask;
@@ -37,6 +36,7 @@ ghost use Rattle.model.specs.declared.table.Table.{Table};
 ghost use Rattle.rules.specs.Blocks.{userAddresses, writtenInto};
 ghost use Rattle.rules.specs.Drive.{blockAt, overwritten, withBlock};
 ghost use Rattle.rules.specs.Questions.{isCount, userAddressesFit};
+ghost use Rattle.survey.specs.First.{Begun};
 ghost use Rattle.survey.specs.Sight.{Seen, Sees, SeesBlock};
 ghost use Rattle.tables.specs.Changing.{outcomeServed};
 ghost use Rattle.tables.specs.Serving.{ServesCommand, drive, served};
@@ -96,22 +96,12 @@ pub fn written_into(
 
 // ---- Write by block
 
-// 3 to 7.
-fn write_arguments(
-    sight: Sight,
-    domain: u64,
-    block: u64,
-    count: Adus,
-    entries: usize,
-    room: usize,
-) -> Verdict
-    requires { ⌜ withinLimits (sight .config) ≡ true ⌝ }
-    ensures { λ r. ⌜ verdictNumber r ≡ firstNo (writeArguments sight entries room domain block count) ⌝ }
+// 6 and 7.
+fn write_arguments(sight: Sight, block: u64, count: Adus, room: usize) -> Verdict
+    ensures { λ r. ⌜ verdictNumber r ≡ firstNo (writeArguments sight room block count) ⌝ }
 {
     let range = (block < sight.config.blocks) & is_count(count);
-    store_verdict(sight, domain, entries)
-        .and(range, Refusal::Range)
-        .and(count.0 <= room as u64, Refusal::Output)
+    ask(range, Refusal::Range).and(count.0 <= room as u64, Refusal::Output)
 }
 
 // 8 to 15.
@@ -138,13 +128,12 @@ fn write_verdict(
     block: u64,
     start: u64,
     count: Adus,
-    entries: usize,
     room: usize,
 ) -> Verdict
     requires { ⌜ withinLimits (sight .config) ≡ true ⌝ }
-    ensures { λ r. ⌜ verdictNumber r ≡ firstNo (writeArguments sight entries room domain block count ++ writeState sight domain start count) ⌝ }
+    ensures { λ r. ⌜ verdictNumber r ≡ firstNo (writeArguments sight room block count ++ writeState sight domain start count) ⌝ }
 {
-    match write_arguments(sight, domain, block, count, entries, room) {
+    match write_arguments(sight, block, count, room) {
         Verdict::No(reason) => Verdict::No(reason),
         Verdict::Pass => write_state(sight, domain, start, count),
     }
@@ -160,13 +149,10 @@ pub fn write_by_block(
     store: &mut [u64],
     words: &mut [u64],
 ) -> Outcome
-    requires { ⌜ Seen domain sight ⌝ }
+    requires { ⌜ Seen domain sight × Begun (WriteByBlock domain block start count) (length (now store)) sight ⌝ }
     ensures { λ r. ⌜ ((t : Table) (bytes : List ℕ) → Sees t domain sight → SeesBlock t block sight → ServesCommand t (WriteByBlock domain block start count) (now (store .entry)) (now (words .entry)) bytes (served (outcomeServed t r) (now (store .exit)) (now (words .exit)) bytes)) ⌝ }
 {
-    if !sight.sound {
-        return refusal(Refusal::Unsound);
-    }
-    match write_verdict(sight, domain, block, start, count, store.len(), words.len()) {
+    match write_verdict(sight, domain, block, start, count, words.len()) {
         Verdict::No(reason) => refusal(reason),
         Verdict::Pass => {
             let config = sight.config;

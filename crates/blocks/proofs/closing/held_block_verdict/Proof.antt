@@ -1,34 +1,30 @@
--- What is asked of the domain, then of the block, one by one.
+-- The range, then the holder.
 use mathlib.Core.List.{[], _∷_}
 use mathlib.Core.Path.{refl}
-use borrow.Author.Needs.{needs}
 use Rattle.geometry.proofs.Laws.Questions.{positive}
-use Rattle.geometry.specs.Address.{isBlock, isDomainId}
+use Rattle.geometry.specs.Address.{isBlock}
 use Rattle.geometry.specs.Questions.{ask}
 use Rattle.rules.specs.Drive.{heldBy}
-use Rattle.tables.proofs.Answering.{chain, one-by-one-after}
+use Rattle.tables.proofs.Answering.{chain, one-by-one}
+use Rattle.tables.specs.Verdicts.{thenNumber}
+use borrow.Author.Needs.{needs}
 use Rattle.blocks.proofs.closing.held_block_verdict.Statement.{statement}
 use Rattle.blocks.proofs.closing.held_block_verdict.Tie as tie
 
-domain-verdict-requires : tie.Need-domain-verdict-requires
-domain-verdict-requires c κs = search needs
-
-and-requires : tie.Need-and-requires
-and-requires c κs = search needs
+ask-requires : tie.Need-ask-requires
+ask-requires c κs = search needs
 
 is-held-requires : tie.Need-is-held-requires
 is-held-requires c κs = search needs
 
-and-requires-2 : tie.Need-and-requires-2
-and-requires-2 c κs = search needs
+and-requires : tie.Need-and-requires
+and-requires c κs = search needs
 
 returns : tie.Need-returns
-unfolding chain positive
-returns c = let z = c .before .before .before .before .before .before .args in let x = z .sight in
-    rw (c .and2 .ensures, c .before .is-held .ensures, c .before .before .and .ensures, c .before .before .before .before .domain-verdict .ensures)
-    (one-by-one-after (ask 4 (isDomainId (z .domain)) ∷ ask 5 (x .domain .exists) ∷ []) (ask 6 (isBlock (x .config) (z .block)) ∷ ask 9 (heldBy (z .domain) (x .block)) ∷ []) refl refl)
+unfolding chain positive thenNumber
+returns c = let z = c .before .before .before .before .before .args in let x = z .sight in
+    rw (c .and .ensures, c .before .is-held .ensures, c .before .before .ask .ensures)
+    (one-by-one (ask 6 (isBlock (x .config) (z .block)) ∷ ask 9 (heldBy (z .domain) (x .block)) ∷ []) refl)
 
 pub held-block-verdict-spec : {M : Type 1} → statement M
-held-block-verdict-spec =
-    tie.close
-    (tie.spec domain-verdict-requires and-requires is-held-requires and-requires-2 returns)
+held-block-verdict-spec = tie.close (tie.spec ask-requires is-held-requires and-requires returns)

@@ -1,48 +1,59 @@
--- The later questions are put where the earlier ones have no no.
-use mathlib.Core.Path.{refl, sym, ap, _∙_}
+-- The block's questions, the open limit, then those of the new blocks.
+use mathlib.Core.List.{[], _∷_, _++_}
+use mathlib.Core.Path.{refl, sym}
+use native.Mathlib.Omega.{arith}
+use lib.Dec.{ltb}
 use borrow.Author.Needs.{needs}
-use Rattle.blocks.specs.Erasing.{eraseArguments, eraseState}
-use Rattle.geometry.proofs.Laws.Questions.{positive, then-asked, then-not}
-use Rattle.model.specs.Answers.{numberOf}
-use Rattle.rules.proofs.Questions.{yes-in}
-use Rattle.survey.proofs.Seeing.{limits-seen}
-use Rattle.tables.proofs.Refusals.{refusal-positive}
-use Rattle.tables.specs.Verdicts.{verdictNumber}
+use Rattle.blocks.specs.Erasing.{blockQuestions, eraseQuestions, newErased}
+use Rattle.geometry.proofs.Laws.Questions.{positive}
+use Rattle.geometry.specs.Questions.{ask}
+use Rattle.tables.proofs.Answering.{chain, first-append, one-by-one-after}
+use Rattle.tables.specs.Verdicts.{newBlocksQuestions}
 use Rattle.blocks.proofs.erasing.erase_verdict.Statement.{statement}
 use Rattle.blocks.proofs.erasing.erase_verdict.Tie as tie
 
-erase-arguments-requires : tie.Need-erase-arguments-requires
-erase-arguments-requires c κs = limits-seen (c .pre .0 .0) (c .args .domain) (c .args .sight) (c .pre .0 .1) (c .pre .1)
+new-of-erase-requires : tie.Need-new-of-erase-requires
+new-of-erase-requires c κs = search needs
 
-enum-known-reason : tie.Need-enum-known-reason
-enum-known-reason c = search needs
+erase-block-verdict-requires : tie.Need-erase-block-verdict-requires
+erase-block-verdict-requires c κs = search needs
 
-enum-told : tie.Need-enum-told
-enum-told c = search needs
+may-open-requires : tie.Need-may-open-requires
+may-open-requires c κs = search needs
 
-erase-state-requires : tie.Need-erase-state-requires
-unfolding positive eraseArguments
-erase-state-requires c κs = let z = c .before .before .before in let a = z .args in
-    (z .pre, yes-in 4 (eraseArguments (a .sight) (a .entries) (a .domain) (a .block)) refl (sym (c .before .before .erase-arguments .ensures) ∙ ap verdictNumber (c .enum-told .given .1)))
+and-requires : tie.Need-and-requires
+and-requires c κs = search needs
+
+new-blocks-verdict-requires : tie.Need-new-blocks-verdict-requires
+new-blocks-verdict-requires c κs = let z = c .before .before .before .before .before in (z .pre .0, (z .pre .1, omega (arith, c .before .before .before .new-of-erase .ensures .1)))
+
+then-requires : tie.Need-then-requires
+then-requires c κs = search needs
 
 returns : tie.Need-returns
-returns c = let a = c .before .before .before .before .args in let reason = c .before .reason .given .0 .0 in λ t s.
-    sym (then-not (eraseArguments (a .sight) (a .entries) (a .domain) (a .block)) (eraseState t (a .sight) (a .domain) (a .block)) (numberOf reason) (refusal-positive reason)
-    (sym (c .before .before .before .erase-arguments .ensures) ∙ ap verdictNumber (c .before .reason .given .1)))
-
-returns-2 : tie.Need-returns-2
-unfolding positive eraseArguments
-returns-2 c = let a = c .before .before .before .before .args in λ t s.
-    c .erase-state .ensures t s ∙ sym (then-asked (eraseArguments (a .sight) (a .entries) (a .domain) (a .block)) (eraseState t (a .sight) (a .domain) (a .block)) refl
-    (sym (c .before .before .before .erase-arguments .ensures) ∙ ap verdictNumber (c .before .enum-told .given .1)))
+unfolding chain positive blockQuestions eraseQuestions
+returns c = let z = c .before .before .before .before .before .before .before in let a = z .args in let x = a .sight in λ t s.
+    let qs = blockQuestions x (a .domain) (a .block) in
+    let limit = ask 11 (ltb (x .opened) (x .domain .limit)) ∷ [] in
+    rw (
+      c .then .ensures,
+      c .before .new-blocks-verdict .ensures t s,
+      c .before .before .and .ensures,
+      c .before .before .before .may-open .ensures,
+      c .before .before .before .before .erase-block-verdict .ensures,
+      c .before .before .before .before .before .new-of-erase .ensures .0,
+      one-by-one-after qs limit refl refl,
+    )
+    (sym (first-append (qs ++ limit) (newBlocksQuestions t (a .domain) 1 (newErased x (a .domain) (a .block))) refl))
 
 pub erase-verdict-spec : {M : Type 1} → statement M
 erase-verdict-spec =
     tie.close
     (tie.spec
-    erase-arguments-requires
-    enum-known-reason
-    enum-told
-    erase-state-requires
-    returns
-    returns-2)
+    new-of-erase-requires
+    erase-block-verdict-requires
+    may-open-requires
+    and-requires
+    new-blocks-verdict-requires
+    then-requires
+    returns)

@@ -1,14 +1,15 @@
--- An unsound table, too many seconds, or every open block counted down.
+-- Too many seconds, or every open block counted down.
 use mathlib.Core.List.{[]}
-use mathlib.Core.Path.{refl, sym, _∙_}
+use mathlib.Core.Path.{refl}
 use native.Mathlib.Omega.{arith}
-use borrow.Author.Tests.{le-leb, lt-leb, not-false, not-true}
+use lib.ListN.{length}
+use borrow.Author.Tests.{le-leb, lt-leb}
 use Rattle.geometry.specs.Questions.{firstNo}
 use Rattle.model.specs.declared.answer.Answer.the-variants.{Done}
 use Rattle.model.specs.declared.answer.Refusal.the-variants.{Range}
 use Rattle.model.specs.declared.command.Command.the-variants.{Pulse}
-use Rattle.rules.specs.Effects.{effect, questions}
-use Rattle.survey.proofs.Outcomes.{changed-outcome, later-outcome, unsound-outcome}
+use Rattle.rules.specs.Effects.{effect}
+use Rattle.survey.proofs.Outcomes.{begun-yes, change-outcome, then-outcome}
 use Rattle.survey.proofs.Seeing.{changed-pulse, sound-limits}
 use Rattle.tables.specs.Changing.{pulseChange}
 use borrow.Author.Needs.{needs}
@@ -19,17 +20,10 @@ refusal-requires : tie.Need-refusal-requires
 refusal-requires c κs = search needs
 
 returns : tie.Need-returns
-returns c = let z = c .before .before .before .args in λ t store words bytes s.
-    unsound-outcome t 0 (z .sight) (Pulse (z .seconds)) (c .refusal .result) store words bytes s (not-true _ (c .before .if1 .taken)) (c .refusal .ensures)
-
-refusal-requires-2 : tie.Need-refusal-requires-2
-refusal-requires-2 c κs = search needs
-
-returns-2 : tie.Need-returns-2
-unfolding questions firstNo
-returns-2 c = let z = c .before .before .before .before .args in λ t store words bytes s.
-    later-outcome t 0 (z .sight) (Pulse (z .seconds)) (c .refusal2 .result) Range store words bytes s (not-false _ (c .before .before .if1 .left))
-    (rw (le-leb 0 (z .seconds) (omega arith), lt-leb (z .seconds) 65535 (c .before .if2 .taken))) (c .refusal2 .ensures)
+unfolding firstNo
+returns c = let n = c .before .before .args .seconds in λ t store words bytes first.
+    then-outcome t (Pulse n) (c .refusal .result) Range store words bytes first
+    (rw (le-leb 0 n (omega arith), lt-leb n 65535 (c .before .if1 .taken))) (c .refusal .ensures)
 
 cast-pulse-change : tie.Need-cast-pulse-change
 cast-pulse-change c = search needs
@@ -37,23 +31,14 @@ cast-pulse-change c = search needs
 pulse-change-requires : tie.Need-pulse-change-requires
 pulse-change-requires c κs = search needs
 
-returns-3 : tie.Need-returns-3
-unfolding questions effect firstNo
-returns-3 c = let z = c .before .before .before .before .args in λ t store words bytes s.
-    let e = not-false _ (c .before .before .if1 .left) in
+returns-2 : tie.Need-returns-2
+unfolding effect firstNo
+returns-2 c = let n = c .before .before .args .seconds in λ t store words bytes first.
     rw (c .pulse-change .ensures)
-    (changed-outcome t 0 (z .sight) (Pulse (z .seconds)) Done (pulseChange (z .seconds)) _ [] store words bytes s e
-    (rw (le-leb 0 (z .seconds) (omega arith), le-leb (z .seconds) 65535 (c .before .if2 .left)))
-    (changed-pulse t (z .seconds) (sound-limits t (sym (s .tested) ∙ e))) refl refl refl)
+    (change-outcome t (Pulse n) Done (pulseChange n) _ [] store words bytes first
+    (rw (le-leb 0 n (omega arith), le-leb n 65535 (c .before .if1 .left)))
+    (changed-pulse t n (sound-limits t (begun-yes 2 t (Pulse n) (length store) first))) refl refl refl)
 
 pub pulse-spec : {M : Type 1} → statement M
 pulse-spec =
-    tie.close
-    (tie.spec
-    refusal-requires
-    returns
-    refusal-requires-2
-    returns-2
-    cast-pulse-change
-    pulse-change-requires
-    returns-3)
+    tie.close (tie.spec refusal-requires returns cast-pulse-change pulse-change-requires returns-2)

@@ -1,32 +1,27 @@
--- The store and the domain are asked first, then the block and the counts, one by one.
+-- The range and the room, one by one.
 use mathlib.Core.Path.{refl}
-use lib.ListN.{drop, take}
-use borrow.Author.Needs.{needs}
 use Rattle.geometry.proofs.Laws.Questions.{positive}
-use Rattle.tables.proofs.Answering.{chain, one-by-one-after}
+use Rattle.tables.proofs.Answering.{chain, one-by-one}
+use Rattle.tables.specs.Verdicts.{thenNumber}
 use Rattle.transfers.specs.Transfers.{writeArguments}
+use borrow.Author.Needs.{needs}
 use Rattle.transfers.proofs.writes.write_arguments.Statement.{statement}
 use Rattle.transfers.proofs.writes.write_arguments.Tie as tie
 
 is-count-requires : tie.Need-is-count-requires
 is-count-requires c κs = search needs
 
-store-verdict-requires : tie.Need-store-verdict-requires
-store-verdict-requires c κs = search needs
+ask-requires : tie.Need-ask-requires
+ask-requires c κs = search needs
 
 and-requires : tie.Need-and-requires
 and-requires c κs = search needs
 
-and-requires-2 : tie.Need-and-requires-2
-and-requires-2 c κs = search needs
-
 returns : tie.Need-returns
-unfolding chain positive writeArguments
-returns c = let z = c .before .before .before .before .before .before .args in let qs = writeArguments (z .sight) (z .entries) (z .room) (z .domain) (z .block) (z .count) in
-    rw (c .and2 .ensures, c .before .before .and .ensures, c .before .before .before .store-verdict .ensures, c .before .before .before .before .is-count .ensures)
-    (one-by-one-after (take 3 qs) (drop 3 qs) refl refl)
+unfolding chain positive thenNumber writeArguments
+returns c = let z = c .before .before .before .before .before .args in
+    rw (c .and .ensures, c .before .before .ask .ensures, c .before .before .before .is-count .ensures)
+    (one-by-one (writeArguments (z .sight) (z .room) (z .block) (z .count)) refl)
 
 pub write-arguments-spec : {M : Type 1} → statement M
-write-arguments-spec =
-    tie.close
-    (tie.spec is-count-requires store-verdict-requires and-requires and-requires-2 returns)
+write-arguments-spec = tie.close (tie.spec is-count-requires ask-requires and-requires returns)
