@@ -1,4 +1,4 @@
--- What a command's outcome comes to in a table that is seen so: a refusal, or a change of the table.
+-- What a command's outcome comes to: a refusal, or a change of the table; and what it may count on once its first questions are answered.
 use Prim.Native.Nat.{ℕ}
 use mathlib.Core.Bool.{Bool, true, false}
 use mathlib.Core.List.{List, [], _∷_, _++_}
@@ -12,19 +12,18 @@ use Rattle.model.specs.Answers.{numberOf, outcomeOf}
 use Rattle.model.specs.declared.answer.Answer.{Answer}
 use Rattle.model.specs.declared.answer.Answer.the-variants.{Refused}
 use Rattle.model.specs.declared.answer.Refusal.{Refusal}
-use Rattle.model.specs.declared.answer.Refusal.the-variants.{Unsound}
 use Rattle.model.specs.declared.command.Command.{Command}
 use Rattle.model.specs.declared.table.Table.{Table}
-use Rattle.rules.proofs.Questions.{after, answerIn}
+use Rattle.rules.proofs.Questions.{answerIn}
 use Rattle.rules.specs.Calls.{calling, domainOf, lending, profile}
-use Rattle.rules.specs.Effects.{Fills, changing, effect, questions, verdict}
+use Rattle.rules.specs.Effects.{Fills, changing, effect}
 use Rattle.rules.specs.Questions.{domainQuestions, firstQuestions, laterQuestions, storeFits, storeQuestions}
 use Rattle.rules.specs.Soundness.{sound}
 use Rattle.survey.proofs.Seeing.{changed-nothing, limits-seen}
 use Rattle.survey.specs.First.{Begins, Begun, firstAsked}
-use Rattle.survey.specs.Sight.{Seen, Sees}
+use Rattle.survey.specs.Sight.{Seen}
 use Rattle.survey.specs.declared.sight.Sight.{Sight}
-use Rattle.tables.proofs.Answering.{first-refused, first-yes, later-no, table-call, then-changed, then-refused, then-verdict, unsound-call}
+use Rattle.tables.proofs.Answering.{first-refused, first-yes, then-changed, then-refused}
 use Rattle.tables.specs.Changing.{changedBy, leaving, outcomeServed}
 use Rattle.tables.specs.Serving.{ServesCommand, answering, drive, served}
 use Rattle.tables.specs.declared.change.Change.{Change}
@@ -33,31 +32,6 @@ use Rattle.tables.specs.declared.change.Outcome.{Outcome}
 -- An answer that changes nothing leaves the table.
 pub left-as-is : (t : Table) (answer : Answer) → outcomeServed t (leaving answer) ≡ answering t answer
 left-as-is t answer = ap (λ (u : Table). answering u answer) (changed-nothing t)
-
--- The table is not sound, ..
-pub unsound-outcome : (t : Table) (d : ℕ) (x : Sight) (c : Command) (r : Outcome) (store words bytes : List ℕ) → Sees t d x → x .sound ≡ false
-    → r ≡ leaving (Refused Unsound) → ServesCommand t c store words bytes (served (outcomeServed t r) store words bytes)
-unsound-outcome t d x c r store words bytes s e f =
-    rw (f, changed-nothing t) (unsound-call (drive t store) (calling c store words bytes) words bytes (sym (s .tested) ∙ e))
-
--- .. a later question is answered no, ..
-pub later-outcome : (t : Table) (d : ℕ) (x : Sight) (c : Command) (r : Outcome) (reason : Refusal) (store words bytes : List ℕ) → Sees t d x
-    → x .sound ≡ true → numberOf reason ≡ firstNo (after 2 (questions (drive t store) (calling c store words bytes)))
-    → r ≡ leaving (Refused reason) → ServesCommand t c store words bytes (served (outcomeServed t r) store words bytes)
-later-outcome t d x c r reason store words bytes s e q f =
-    rw (f, changed-nothing t) (later-no (drive t store) (calling c store words bytes) words bytes reason (sym (s .tested) ∙ e) q)
-
--- .. or all are answered yes, and the table is changed.
-pub changed-outcome : (t : Table) (d : ℕ) (x : Sight) (c : Command) (answer : Answer) (change : Change) (left : Table) (values store words bytes : List ℕ)
-    → Sees t d x → x .sound ≡ true → firstNo (after 2 (questions (drive t store) (calling c store words bytes))) ≡ 0
-    → changedBy change t ≡ left → effect (drive t store) (calling c store words bytes) ≡ changing values left (drive t store)
-    → outcomeOf answer ≡ success values
-    → Fills (profile c .bytes) t []
-    → ServesCommand t c store words bytes (served (outcomeServed t (record { answer = answer; change = change })) store words bytes)
-changed-outcome t d x c answer change left values store words bytes s e q becomes does says bytes-are =
-    rw becomes (table-call (drive t store) (calling c store words bytes) words bytes values answer left (sym (s .tested) ∙ e) q does says bytes-are)
-
--- ---- As new
 
 -- The first questions of a call ask for no more than the entries of the store.
 same-store : (uses : Bool) (t : Table) (c : Command) (entries words bytes : ℕ)
@@ -70,12 +44,6 @@ first-asked : (t : Table) (c : Command) (store words bytes : List ℕ)
 first-asked t c store words bytes =
     ap (λ (qs : List Question). firstNo (ask 2 (sound t) ∷ qs ++ domainQuestions t (profile c .own)))
     (same-store (profile c .store) t c (length store) (length words) (length bytes))
-
--- So where they are answered yes the first no is that of the later ones.
-pub begun-verdict : (t : Table) (c : Command) (store words bytes : List ℕ) → Begins t c (length store)
-    → verdict (drive t store) (calling c store words bytes) ≡ firstNo (laterQuestions c (drive t store) (calling c store words bytes))
-begun-verdict t c store words bytes first =
-    then-verdict (drive t store) (calling c store words bytes) (sym (first-asked t c store words bytes) ∙ first)
 
 -- One of the first questions is answered no, ..
 pub first-outcome : (t : Table) (c : Command) (r : Outcome) (reason : Refusal) (store words bytes : List ℕ)

@@ -18,14 +18,14 @@ ghost use Rattle.survey.specs.Sight.{Seen, Sees};
 ghost use Rattle.tables.specs.Verdicts.{verdictNumber};
 
 // What a command wants of the domain that it names: that it exists, or for Create that it does not yet. Pulse names none.
-pub enum Own {
+pub(crate) enum Own {
     Existing(u64),
     Missing(u64),
     Nobody,
 }
 
 // A command's own domain, and whether it uses the store.
-pub struct Kind {
+pub(crate) struct Kind {
     pub own: Own,
     pub store: bool,
 }

@@ -1,5 +1,5 @@
 // What every command begins with: a scan of the blocks and one of the domains test whether the table is sound and count each
-// domain's blocks; what the command is about is then looked up.
+// domain's blocks; what the command is about is then looked up, and the questions that all are asked first are answered.
 mod clauses;
 mod first;
 mod free;
@@ -20,8 +20,6 @@ pub use listing::put_listed;
 pub use marks::chain_before;
 pub use marks::no_marks;
 pub use questions::covered_with;
-pub use questions::domain_verdict;
-pub use questions::store_verdict;
 pub use scan::Ranges;
 pub use scan::Subject;
 pub use scan::not_sound;

@@ -9,16 +9,15 @@ use borrow.Author.Tests.{ltb-true, ne-eqb}
 use Rattle.geometry.proofs.Laws.Questions.{answered-no, answered-yes, positive, then-asked, then-not}
 use Rattle.geometry.proofs.Laws.Shape.{both}
 use Rattle.geometry.specs.Questions.{Question, ask, firstNo, success}
-use Rattle.tables.proofs.Refusals.{first-stays, refusal-positive}
+use Rattle.tables.proofs.Refusals.{refusal-positive}
 use Rattle.tables.specs.Serving.{answering, refusing, served}
 use Rattle.tables.specs.Verdicts.{thenNumber}
 use Rattle.model.specs.Answers.{numberOf, outcomeOf}
 use Rattle.model.specs.declared.answer.Answer.{Answer}
 use Rattle.model.specs.declared.answer.Refusal.{Refusal}
-use Rattle.model.specs.declared.answer.Refusal.the-variants.{Unsound}
 use Rattle.model.specs.declared.table.Table.{Table}
 use Rattle.rules.proofs.Drive.{overwritten-nothing}
-use Rattle.rules.proofs.Questions.{after, answerIn, before, from, in-parts, none-zero, positive-after, positive-before, yes-in}
+use Rattle.rules.proofs.Questions.{answerIn, yes-in}
 use Rattle.rules.specs.Calls.{Call, Own, existing, missing, nobody, profileOf}
 use Rattle.rules.specs.Drive.{Drive, overwritten}
 use Rattle.rules.specs.Effects.{Effect, Fills, Served, Serves, accepted, askedThen, changing, effect, questions, step, verdict, wordsFilled}
@@ -111,38 +110,6 @@ unfolding questions
 first-verdict v k reason e =
     then-not (firstQuestions v k) (askedThen (k .asks) v k) (numberOf reason) (refusal-positive reason) (sym e)
 
--- Question 2 comes first.
-unsound-verdict : (v : Drive) (k : Call) → sound (v .table) ≡ false → verdict v k ≡ 2
-unfolding firstNo questions
-unsound-verdict v k e = rw e
-
-pub sound-verdict : (v : Drive) (k : Call) → sound (v .table) ≡ true → verdict v k ≡ firstNo (after 2 (questions v k))
-unfolding firstNo questions
-sound-verdict v k e = rw e
-
--- The others, put in two parts: those before the question with this number, and those from it on.
-pub two-parts : (v : Drive) (k : Call) (n : ℕ)
-    → firstNo (after 2 (questions v k))
-    ≡ thenNumber (firstNo (before n (after 2 (questions v k)))) (firstNo (from n (after 2 (questions v k))))
-two-parts v k n =
-    let qs = after 2 (questions v k) in
-    ap firstNo (sym (in-parts n qs))
-    ∙ first-append (before n qs) (from n qs) (positive-before n qs (positive-after 2 (questions v k) (none-zero v k)))
-
--- A no in the first part is the first no, ..
-pub first-part : (v : Drive) (k : Call) (n : ℕ) (reason : Refusal)
-    → numberOf reason ≡ firstNo (before n (after 2 (questions v k))) → numberOf reason ≡ firstNo (after 2 (questions v k))
-first-part v k n reason e =
-    let rest = firstNo (from n (after 2 (questions v k))) in
-    sym (two-parts v k n ∙ ap (λ (m : ℕ). thenNumber m rest) (sym e) ∙ first-stays reason rest)
-
--- .. and without one it is the second part's.
-pub second-part : (v : Drive) (k : Call) (n : ℕ) → firstNo (before n (after 2 (questions v k))) ≡ 0
-    → firstNo (after 2 (questions v k)) ≡ firstNo (from n (after 2 (questions v k)))
-unfolding thenNumber
-second-part v k n e =
-    two-parts v k n ∙ ap (λ (m : ℕ). thenNumber m (firstNo (from n (after 2 (questions v k))))) e
-
 -- ---- What a call hands back
 
 -- A refused call hands back what it was given.
@@ -175,34 +142,6 @@ accepted-call v k words bytes r filled e answers leaves fills bytes-are bytes-fi
   fills-words = fills ∙ rw e;
   fills-bytes = (filled, rw e bytes-are, bytes-fill);
 }
-
--- In the two cases in which the code refuses: an unsound table, and a later no.
-pub unsound-call : (v : Drive) (k : Call) (words bytes : List ℕ) → sound (v .table) ≡ false
-    → Serves v k words bytes (served (refusing (v .table) Unsound) (v .store) words bytes)
-unsound-call v k words bytes e = refused-call v k words bytes Unsound (unsound-verdict v k e)
-
-pub later-no : (v : Drive) (k : Call) (words bytes : List ℕ) (reason : Refusal) → sound (v .table) ≡ true
-    → numberOf reason ≡ firstNo (after 2 (questions v k))
-    → Serves v k words bytes (served (refusing (v .table) reason) (v .store) words bytes)
-later-no v k words bytes reason s e = refused-call v k words bytes reason (sound-verdict v k s ∙ sym e)
-
--- An accepted call that fills nothing and leaves the store: its answer and its table.
-pub table-call : (v : Drive) (k : Call) (words bytes values : List ℕ) (answer : Answer) (after-it : Table) → sound (v .table) ≡ true
-    → firstNo (after 2 (questions v k)) ≡ 0
-    → effect v k ≡ changing values after-it v
-    → outcomeOf answer ≡ success values
-    → Fills (profileOf (k .asks) .bytes) (v .table) []
-    → Serves v k words bytes (served (answering after-it answer) (v .store) words bytes)
-table-call v k words bytes values answer after-it s e does says bytes-are =
-    accepted-call v k words bytes (served (answering after-it answer) (v .store) words bytes) []
-    (sound-verdict v k s ∙ e)
-    (says ∙ ap (λ (x : Effect). success (x .values)) (sym does))
-    (ap (λ (x : Effect). x .drive) (sym does))
-    (sym (overwritten-nothing words) ∙ ap (λ (x : Effect). overwritten 0 (x .words) words) (sym does))
-    bytes-are
-    (sym (overwritten-nothing bytes))
-
--- ---- As new
 
 -- A call is refused by one of the first questions, or by a later one.
 pub first-refused : (v : Drive) (k : Call) (words bytes : List ℕ) (reason : Refusal) → numberOf reason ≡ firstNo (firstQuestions v k)

@@ -11,6 +11,7 @@ use Rattle.rules.specs.Questions.{domainQuestions, storeQuestions}
 use Rattle.survey.proofs.Seeing.{limits-seen}
 use Rattle.survey.specs.Sight.{Sees}
 use Rattle.tables.proofs.Answering.{first-append}
+use Rattle.tables.specs.Verdicts.{verdictNumber}
 use borrow.Author.Needs.{needs}
 use Rattle.survey.proofs.first.first_verdict.Statement.{statement}
 use Rattle.survey.proofs.first.first_verdict.Tie as tie
@@ -46,7 +47,9 @@ returns-2 c = let a = c .before .before .before .before .before .before .args in
     let store = storeQuestions (p .store) t k in
     let domain = domainQuestions t (p .own) in
     let whole = sym (s .tested) ∙ not-false _ (c .before .before .before .before .if1 .left) in
-    rw (c .then .ensures, c .before .own-verdict .ensures t own, c .before .before .store-verdict .ensures t k (s .same-config) refl, kind .ensures .same-own, kind .ensures .same-store)
+    let asked : verdictNumber (c .before .before .store-verdict .result) ≡ firstNo store =
+    c .before .before .store-verdict .ensures t k (s .same-config) refl ∙ ap (λ (uses : Bool). firstNo (storeQuestions uses t k)) (kind .ensures .same-store) in
+    rw (c .then .ensures, c .before .own-verdict .ensures t own, asked, kind .ensures .same-own)
     (sym (first-append store domain (positive-store (p .store) t k)) ∙ sym (ap (λ (b : Bool). cond b (firstNo (store ++ domain)) 2) whole))
 
 pub first-verdict-spec : {M : Type 1} → statement M
