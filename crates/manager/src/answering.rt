@@ -24,8 +24,9 @@ use transfers::write_by_block;
 ghost use mathlib.Core.Path.{_≡_};
 ghost use Rattle.manager.specs.Answering.{Answered, Viewed, changedPlace};
 
-// The command's answer, what it changes and what it has left to write, from what was read of the table. The store, the words and the
-// bytes are then as after it, but for what is left. The first questions are the same for all commands; its own function puts the others.
+// The command's answer, what it changes and what it has left to write, from what was read of the table. The store, the
+// words and the bytes are then as after it, but for what is left. What every command is asked first is asked here, the
+// other questions by the command's own function.
 pub(crate) fn answered(
     view: View,
     marks: &[u16],

@@ -1,8 +1,8 @@
 -- The questions of each command come in document 01's order, and where none is answered no, each is answered yes.
 use Prim.Native.Nat.{ℕ}
 use mathlib.Core.Bool.{Bool, true, cond}
-use mathlib.Core.List.{List, [], _∷_, _++_}
-use mathlib.Core.Path.{_≡_, refl, ap}
+use mathlib.Core.List.{List, [], _∷_}
+use mathlib.Core.Path.{_≡_, refl}
 use lib.Dec.{eqb, ltb}
 use borrow.Author.Tests.{ltb-true}
 use Rattle.geometry.proofs.Laws.Questions.{all-yes, positive}
@@ -86,11 +86,7 @@ answered-yes v k n e = yes-in n (questions v k) (none-zero v k) e
 
 -- ---- Questions in parts
 
--- The questions behind the one with this number, before it, and from it on.
-abbrev pub after : ℕ → List Question → List Question
-after n [] = []
-after n (q ∷ qs) = cond (eqb (q .number) n) qs (after n qs)
-
+-- The questions before the one with this number, and from it on.
 abbrev pub before : ℕ → List Question → List Question
 before n [] = []
 before n (q ∷ qs) = cond (eqb (q .number) n) [] (q ∷ before n qs)
@@ -98,22 +94,3 @@ before n (q ∷ qs) = cond (eqb (q .number) n) [] (q ∷ before n qs)
 abbrev pub from : ℕ → List Question → List Question
 from n [] = []
 from n (q ∷ qs) = cond (eqb (q .number) n) (q ∷ qs) (from n qs)
-
-pub in-parts : (n : ℕ) (qs : List Question) → before n qs ++ from n qs ≡ qs
-in-parts n [] = refl
-in-parts n (q ∷ qs) =
-    by-test (eqb (q .number) n) (λ e. rw e) (λ e. rw e (ap (λ (rs : List Question). q ∷ rs) (in-parts n qs)))
-
-pub positive-before : (n : ℕ) (qs : List Question) → positive qs ≡ true → positive (before n qs) ≡ true
-unfolding positive
-positive-before n [] p = refl
-positive-before n (q ∷ qs) p =
-    let h = both (ltb 0 (q .number)) (positive qs) p in
-    by-test (eqb (q .number) n) (λ e. rw e) (λ e. rw (e, h .0) (positive-before n qs (h .1)))
-
-pub positive-after : (n : ℕ) (qs : List Question) → positive qs ≡ true → positive (after n qs) ≡ true
-unfolding positive
-positive-after n [] p = refl
-positive-after n (q ∷ qs) p =
-    let h = both (ltb 0 (q .number)) (positive qs) p in
-    by-test (eqb (q .number) n) (λ e. rw e (h .1)) (λ e. rw e (positive-after n qs (h .1)))

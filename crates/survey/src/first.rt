@@ -1,4 +1,5 @@
-// What every command is asked first: is the table sound, has the store its entries, and what is the domain that it names?
+// What every command is asked first: whether the table is sound and the store has all its entries, and of the domain that
+// it names whether it exists.
 use crate::sight::Sight;
 use geometry::is_domain_id;
 use geometry::store_length;
@@ -17,7 +18,8 @@ ghost use Rattle.survey.specs.First.{KindOf, existingOf, firstAsked, own
 ghost use Rattle.survey.specs.Sight.{Seen, Sees};
 ghost use Rattle.tables.specs.Verdicts.{verdictNumber};
 
-// What a command wants of the domain that it names: that it exists, or for Create that it does not yet. Pulse names none.
+// What a command wants of the domain that it names: that it exists, or for Create that it does not yet. Pulse names
+// none.
 pub(crate) enum Own {
     Existing(u64),
     Missing(u64),
