@@ -33,7 +33,8 @@ ghost use Rattle.survey.specs.Free.{Chosen, noCandidate};
 ghost use Rattle.survey.specs.Listing.{listedFrom};
 ghost use Rattle.survey.specs.Scan.{Walked, chainPasses};
 
-// Has no block of a chain, from one on that is counted from 1, the serial of this one? 257 is no chain. Each block leads to one before it.
+// Has no block of a chain, from one on that is counted from 1, the serial of this one? 257 is no chain. Each block
+// leads to one before it.
 fn chain_passes(blocks: &[Block], marks: &[u16], last: usize, block: Block) -> bool
     requires { ⌜ (length (now blocks) ≤ 256) × (length (now marks) ≡ markCount) ⌝ }
     ensures { λ r. ⌜ r ≡ chainPasses (now (blocks .entry)) (now (marks .entry)) block last ⌝ }
@@ -166,7 +167,8 @@ pub fn change_blocks(blocks: &mut [Block], change: Change)
     }
 }
 
-// What is left of a write goes into block n, the Free one to be opened next, as far as it fits. Where no block has that number, nothing is left.
+// What is left of a write goes into block n, the Free one to be opened next, as far as it fits. Where no block has that
+// number, nothing is left.
 fn fill_chosen(
     config: Config,
     domain: u64,
@@ -190,7 +192,8 @@ fn fill_chosen(
     }
 }
 
-// The Free block to be opened next is opened for what is left of a write, and takes what fits it. Where no block is Free, nothing is left.
+// The Free block to be opened next is opened for what is left of a write, and takes what fits it. Where no block is
+// Free, nothing is left.
 fn open_next(
     blocks: &mut [Block],
     config: Config,

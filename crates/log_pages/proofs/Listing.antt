@@ -1,5 +1,5 @@
 -- A list that is filled in descriptor by descriptor.
-use Prim.Native.Nat.{ℕ, zero, suc, _+_, _-_, _<_, _≤_}
+use Prim.Native.Nat.{ℕ, zero, suc, _+_, _-_, _≤_}
 use mathlib.Core.Bool.{true, cond}
 use mathlib.Core.List.{List, [], _∷_, _++_, append-assoc, append-nil}
 use mathlib.Core.Path.{_≡_, refl, sym, ap, _∙_}
@@ -9,26 +9,24 @@ use native.Mathlib.Omega.{arith}
 use lib.Dec.{eqb}
 use lib.ListN.{length, length-append}
 use borrow.Author.Tests.{eq-eqb, ne-eqb}
-use Rattle.geometry.proofs.Laws.Shape.{both, by-test}
+use Rattle.geometry.proofs.Laws.Shape.{by-test}
 use Rattle.geometry.specs.Bytes.{littleEndian}
 use Rattle.log_pages.proofs.Filling.{Filled}
 use Rattle.log_pages.specs.LogPages.{markedBytes, markedTo}
 use Rattle.model.specs.declared.block.Block.{Block}
-use Rattle.model.specs.declared.block.State.{State}
 use Rattle.model.specs.declared.block.State.the-variants as state
-use Rattle.model.specs.declared.block.Way.the-variants.{Erase, Placement}
 use Rattle.model.specs.declared.command.Listed.{Listed}
 use Rattle.model.specs.declared.command.Listed.the-variants.{Closed, Open}
 use Rattle.model.specs.declared.table.Table.{Table}
-use Rattle.rules.proofs.Counting.{by-eq, clash, numbers-once}
+use Rattle.rules.proofs.Counting.{by-eq, numbers-once}
 use Rattle.rules.proofs.Drive.{fill-then}
 use Rattle.rules.proofs.LogPages.{closed-list-length, open-list-length}
 use Rattle.rules.proofs.Store.{length-overwritten}
 use Rattle.rules.specs.Calls.{listBytes}
 use Rattle.rules.specs.Counting.{numbersTo}
-use Rattle.rules.specs.Drive.{blockAt, heldBy, isClosed, isOpen, isOpenState, openOf, overwritten, size}
+use Rattle.rules.specs.Drive.{blockAt, openOf, overwritten, size}
 use Rattle.rules.specs.Effects.{Fills}
-use Rattle.rules.specs.LogPages.{closedList, descriptor, descriptorOf, endMark, listLength, listOf, stateByte, wearIndex}
+use Rattle.rules.specs.LogPages.{closedList, descriptor, descriptorOf, endMark, listLength, listOf}
 use Rattle.survey.specs.Listing.{byteTold, indexTold, isListed, listMark}
 use Rattle.survey.specs.Sight.{SeesList}
 use Rattle.survey.specs.declared.sight.Sight.{Sight}

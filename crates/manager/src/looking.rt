@@ -19,8 +19,8 @@ ghost use lib.ListN.{length};
 ghost use Rattle.manager.specs.Looking.{Looked};
 ghost use Rattle.survey.specs.Marks.{markCount};
 
-// The scan of the blocks and that of the domains, and what they counted; the records of the domain and of the block that
-// the command is about, which may be the Free block to be opened next; and the list, if it is asked for.
+// The scan of the blocks and that of the domains, and what they counted; the records of the domain and of the block
+// that the command is about, which may be the Free block to be opened next; and the list, if it is asked for.
 pub(crate) fn looked(
     blocks: &[Block],
     domains: &[Domain],

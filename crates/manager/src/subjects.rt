@@ -114,8 +114,8 @@ pub(crate) fn subject_of(config: Config, command: Command) -> Subject
     }
 }
 
-// What a command begins with: how many blocks the drive has, none outside the limits; what the command is about; and how many blocks
-// are looked through for it.
+// What a command begins with: how many blocks the drive has, none outside the limits; what the command is about; and
+// how many blocks are looked through for it.
 pub(crate) struct Beginning {
     pub blocks: usize,
     pub subject: Subject,

@@ -3,7 +3,7 @@ use Prim.Native.Nat.{ℕ, zero, suc, _-_, _<_, min}
 use mathlib.Core.Bool.{true}
 use mathlib.Core.List.{List, [], _∷_}
 use mathlib.Core.Option.{Option, none, some}
-use mathlib.Core.Path.{_≡_, refl, sym, ap, subst, _∙_}
+use mathlib.Core.Path.{_≡_, refl, sym, ap, _∙_}
 use native.Mathlib.Omega.{arith}
 use lib.ListN.{getD, length, set}
 use Rattle.geometry.proofs.Laws.Shape.{is-between}
@@ -20,7 +20,7 @@ use Rattle.rules.proofs.Counting.{length-row}
 use Rattle.rules.proofs.Drive.{overwritten-nothing}
 use Rattle.rules.proofs.Effects.{written-length}
 use Rattle.rules.specs.Blocks.{Written, roomIn, userAddress, userAddresses, writtenByPlacement, writtenFirst, writtenInto}
-use Rattle.rules.specs.Drive.{Drive, blockAt, clearDomain, domainAt, overwritten, size, withBlock, withDomain}
+use Rattle.rules.specs.Drive.{Drive, blockAt, clearDomain, domainAt, overwritten, withBlock, withDomain}
 use Rattle.rules.specs.Questions.{userAddressesFit}
 use Rattle.survey.proofs.Seeing.{changed-opening, changed-owner}
 use Rattle.survey.specs.Sight.{foundIn}

@@ -1,4 +1,5 @@
-// Write by placement: user addresses into the placement's open block, and into others that are opened for it while ADUs remain.
+// Write by placement: user addresses into the placement's open block, and into others that are opened for it while ADUs
+// remain.
 mod filling;
 mod placing;
 mod rest;

@@ -68,7 +68,8 @@ fn number_of(found: Found) -> u64
     }
 }
 
-// Into the placement's open block what it takes, if it has one: its new record, and what is left for blocks that are opened.
+// Into the placement's open block what it takes, if it has one: its new record, and what is left for blocks that are
+// opened.
 pub(crate) fn placed(
     sight: Sight,
     domain: u64,

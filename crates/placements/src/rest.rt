@@ -1,11 +1,12 @@
-// What is left to write of a write by placement, once its questions are answered and the placement's open block has what it takes.
+// What is left to write of a write by placement, once its questions are answered and the placement's open block has
+// what it takes.
 use geometry::Adus;
 use tables::Outcome;
 ghost use mathlib.Core.Path.{_≡_};
 ghost use Rattle.placements.specs.Onwards.{completeOf, nothingLeft};
 
-// So many ADUs, whose user addresses go on from a start, for blocks that are opened for the placement. Their flash addresses go
-// behind so many words.
+// So many ADUs, whose user addresses go on from a start, for blocks that are opened for the placement. Their flash
+// addresses go behind so many words.
 pub struct Rest {
     pub placement: u8,
     pub start: u64,

@@ -85,8 +85,8 @@ fn placement_verdict(
     }
 }
 
-// User addresses into the placement's open block; what is left of them goes into others that are opened for it. The flash addresses
-// go into the words.
+// User addresses into the placement's open block; what is left of them goes into others that are opened for it. The
+// flash addresses go into the words.
 pub fn write_by_placement(
     sight: Sight,
     domain: u64,

@@ -10,7 +10,8 @@ ghost use Rattle.model.specs.declared.command.Command.the-variants.{Free};
 ghost use Rattle.recorder.specs.Choice.{foundIn, olderOf};
 
 // The oldest block so far, by its number and its serial. Where there is none, they are a number that no drive has and a
-// serial above those of all blocks. It is no enum: the gap beside an enum's tag is copied through memory for every block.
+// serial above those of all blocks. It is no enum: the gap beside an enum's tag is copied through memory for every
+// block.
 pub(crate) struct Found {
     number: u64,
     serial: u64,

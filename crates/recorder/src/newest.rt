@@ -80,7 +80,8 @@ fn smaller(a: usize, b: usize) -> usize
     if a < b { a } else { b }
 }
 
-// As many of the last ADUs of a key's block as there are words left to fill, into the end of those. Returns how many words are left then.
+// As many of the last ADUs of a key's block as there are words left to fill, into the end of those. Returns how many
+// words are left then.
 fn put_block(
     key: u64,
     written: &[u64],

@@ -78,7 +78,8 @@ fn give_latest(table: Table, domain: u64, count: Adus, store: &[u64], words: &mu
     Answer::Refused(Refusal::Range)
 }
 
-// The last so many samples that a domain keeps, oldest first, into the front of the words. The table and the store stay as they were.
+// The last so many samples that a domain keeps, oldest first, into the front of the words. The table and the store stay
+// as they were.
 pub fn latest_in(
     table: &mut Table,
     domain: u64,

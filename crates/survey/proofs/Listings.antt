@@ -9,7 +9,7 @@ use Rattle.geometry.proofs.Laws.Shape.{by-test}
 use Rattle.model.specs.declared.block.Block.{Block}
 use Rattle.model.specs.declared.table.Table.{Table}
 use Rattle.rules.proofs.Soundness.{apart}
-use Rattle.rules.specs.Drive.{blockAt, clearBlock, size}
+use Rattle.rules.specs.Drive.{blockAt, clearBlock}
 use Rattle.rules.specs.LogPages.{wearIndex}
 use Rattle.survey.proofs.Marking.{other-mark, set-mark}
 use Rattle.survey.proofs.Sighting.{Present, all-there}

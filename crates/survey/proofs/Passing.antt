@@ -4,14 +4,12 @@ use mathlib.Core.Bool.{Bool, true, false, true≢false, _&&_, cond}
 use mathlib.Core.List.{List, [], _∷_}
 use mathlib.Core.Option.{Option, none, some}
 use mathlib.Core.Path.{_≡_, refl, sym, ap, _∙_, subst}
-use native.Mathlib.Numerals.{add-one}
 use native.Mathlib.Omega.{arith}
 use lib.Dec.{eqb, ltb}
 use lib.ListN.{getD, length}
 use borrow.Author.Tests.{eq-eqb, eqb-true, le-leb, lt-ltb, ltb-true, ne-eqb}
 use Rattle.geometry.proofs.Laws.Shape.{both, by-test}
 use Rattle.geometry.specs.Address.{isDomainId}
-use Rattle.geometry.specs.Shape.{adusPerBlock}
 use Rattle.model.specs.declared.block.Block.{Block}
 use Rattle.model.specs.declared.block.State.{State}
 use Rattle.model.specs.declared.block.State.the-variants.{Closed, Free, Open}
@@ -21,10 +19,10 @@ use Rattle.rules.proofs.Counting.{all-each, all-next, clash, same-test}
 use Rattle.rules.proofs.Kept.Tested.{block-facts, domain-facts, each-domain, owned-by}
 use Rattle.rules.proofs.Soundness.{apart}
 use Rattle.rules.specs.Drive.{blockAt, clearBlock, domainAt, heldBy, heldCount, isFreeState, isOpenFor, isPlacedState, openBlock, openBlockTo, openCount, size}
-use Rattle.rules.specs.Soundness.{blockSound, domainSound, sound, stateBelow}
+use Rattle.rules.specs.Soundness.{domainSound, sound, stateBelow}
 use Rattle.survey.proofs.Places.{place-alone, place-below}
 use Rattle.survey.proofs.Steps.{About, Marked, Next, atPlace, scanned-next}
-use Rattle.survey.specs.Clauses.{blocksSound, holderRecord, lastTo, placeFor, placeIn, placeNew, placeOf, serialNew}
+use Rattle.survey.specs.Clauses.{blocksSound, holderRecord, lastTo, placeFor, placeIn, placeOf}
 use Rattle.survey.specs.Marks.{mark}
 use Rattle.survey.specs.Scan.{Scanned, Walked, chainPasses}
 use Rattle.survey.specs.Sight.{foundIn, foundOf, openAt}

@@ -4,7 +4,7 @@ use mathlib.Core.Bool.{true}
 use mathlib.Core.List.{List, [], _∷_, _++_}
 use mathlib.Core.Path.{_≡_, refl, sym, ap, _∙_}
 use native.Mathlib.Omega.{arith}
-use lib.ListN.{drop, length, length-set, length-take, set, take, take-append-drop}
+use lib.ListN.{drop, length, length-take, set, take, take-append-drop}
 use lib.Seq.{set-out}
 use borrow.Author.Tests.{leb-true, ne-eqb}
 use Rattle.geometry.proofs.Laws.Shape.{by-test, limits}

@@ -1,10 +1,10 @@
 -- What the marks have of the blocks that the scan has gone over, while all of them were sound, and that a step keeps it.
-use Prim.Native.Nat.{ℕ, _+_, _-_, _%_, _<_, _≤_}
-use mathlib.Core.Bool.{Bool, true, false, true≢false, not, _&&_, _||_, and-true, cond}
+use Prim.Native.Nat.{ℕ, _+_, _%_, _<_, _≤_}
+use mathlib.Core.Bool.{Bool, true, false, true≢false, not, _&&_, and-true, cond}
 use mathlib.Core.List.{List}
 use mathlib.Core.Path.{_≡_, refl, sym, ap, _∙_}
 use native.Mathlib.Omega.{arith}
-use lib.Dec.{eqb, leb, ltb}
+use lib.Dec.{eqb, ltb}
 use lib.ListN.{getD, length, length-set}
 use borrow.Author.Tests.{eq-eqb, eqb-true, le-leb, lt-ltb, ltb-true, ne-eqb}
 use Rattle.geometry.proofs.Laws.Shape.{both, by-test, is-between}
@@ -16,7 +16,7 @@ use Rattle.model.specs.declared.block.State.the-variants.{Closed, Free, Open}
 use Rattle.model.specs.declared.block.Way.the-variants.{Erase, Placement}
 use Rattle.model.specs.declared.table.Domain.{Domain}
 use Rattle.model.specs.declared.table.Table.{Table}
-use Rattle.rules.proofs.Counting.{all-next, by-eq, count-most, each-all, sum-next}
+use Rattle.rules.proofs.Counting.{by-eq, count-most, each-all, sum-next}
 use Rattle.rules.proofs.Kept.Tested.{block-facts, owned-in}
 use Rattle.rules.specs.Counting.{allTo, countTo}
 use Rattle.rules.specs.Drive.{blockAt, clearBlock, heldBy, isFree, isFreeState, isOpen, openOf}
@@ -25,7 +25,7 @@ use Rattle.survey.proofs.Chains.{Chain, chain-tells, key-held, last-mos
 use Rattle.survey.proofs.Marking.{chain-ends, other-mark, set-mark}
 use Rattle.survey.specs.Clauses.{domainIndex, holderRecord, keyOf, lastTo, placeFor, placeIn, placeNew, placeOf, sameKey, serialKey, serialNew}
 use Rattle.survey.specs.Marks.{Linked, chainDiffers, mark, markCount, raised}
-use Rattle.survey.specs.Scan.{HeldScanned, Scanned, chainPasses, counted, isSoundIn, openRaised, placeFree, placeSet}
+use Rattle.survey.specs.Scan.{HeldScanned, Scanned, chainPasses, counted, isSoundIn, placeFree, placeSet}
 use Rattle.survey.specs.declared.scan.Subject.{Subject}
 
 -- The subject has what the tests need of the table's configuration.

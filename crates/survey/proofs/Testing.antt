@@ -1,25 +1,24 @@
 -- What is tested of a block, piece by piece, comes to its clauses.
 use Prim.Native.Nat.{ℕ, _+_}
-use mathlib.Core.Bool.{Bool, true, false, true≢false, _&&_, _||_, and-true, cond}
+use mathlib.Core.Bool.{Bool, true, false, true≢false, _&&_, cond}
 use mathlib.Core.List.{List}
 use mathlib.Core.Path.{_≡_, refl, sym, ap, _∙_}
 use native.Mathlib.Omega.{arith}
 use lib.Dec.{eqb, leb, ltb}
-use lib.ListN.{length, length-set, set}
-use borrow.Author.Tests.{eq-eqb, eqb-true, lt-ltb, ltb-true, ne-eqb}
-use Rattle.geometry.proofs.Laws.Shape.{by-test}
+use lib.ListN.{length, length-set}
+use borrow.Author.Tests.{eq-eqb, ltb-true, ne-eqb}
 use Rattle.geometry.specs.Shape.{between}
 use Rattle.model.specs.declared.block.Block.{Block}
 use Rattle.model.specs.declared.block.State.{State}
-use Rattle.model.specs.declared.block.State.the-variants.{Closed, Free, Open}
+use Rattle.model.specs.declared.block.State.the-variants.{Closed, Open}
 use Rattle.model.specs.declared.block.Way.{Way}
 use Rattle.model.specs.declared.block.Way.the-variants.{Erase, Placement}
 use Rattle.model.specs.declared.table.Domain.{Domain}
-use Rattle.rules.specs.Drive.{isFree, isFreeState}
+use Rattle.rules.specs.Drive.{isFree}
 use Rattle.rules.specs.Soundness.{blockSound, holderExists, isClear, serialGiven, wayBelow}
 use Rattle.survey.specs.Clauses.{domainIndex, keyOf, placeFor, placeIn, placeOf}
 use Rattle.survey.specs.Marks.{Linked, PlaceTaken, mark, raised}
-use Rattle.survey.specs.Scan.{HeldTested, OpenTested, Scanned, WayTaken, closedTested, isSoundIn, placeFree, placeSet, wayPlace}
+use Rattle.survey.specs.Scan.{HeldTested, OpenTested, Scanned, WayTaken, closedTested, placeFree, placeSet, wayPlace}
 use Rattle.survey.specs.declared.scan.Subject.{Subject}
 
 -- ---- A place

@@ -75,8 +75,8 @@ pub(crate) fn closed_kept(capacity: Adus, block: Block) -> bool
     block.left == 0
 }
 
-// The place of an open block of a domain's placement, which no two open blocks share; 256 where no sound table has such a
-// holder or placement.
+// The place of an open block of a domain's placement, which no two open blocks share; 256 where no sound table has such
+// a holder or placement.
 pub(crate) fn place_for(holder: u8, placement: u8) -> usize
     ensures { λ r. ⌜ (r ≡ placeFor holder placement) × (r ≤ 256) ⌝ }
 {
@@ -87,8 +87,8 @@ pub(crate) fn place_for(holder: u8, placement: u8) -> usize
     }
 }
 
-// Two blocks of one domain with the same serial have the same key. Serials are spread over the keys by a multiplication, so
-// that a domain that keeps serials at any fixed distance still spreads them.
+// Two blocks of one domain with the same serial have the same key. Serials are spread over the keys by a
+// multiplication, so that a domain that keeps serials at any fixed distance still spreads them.
 pub(crate) fn serial_key(holder: u8, serial: u32) -> usize
     ensures { λ r. ⌜ (r ≡ keyOf holder serial) × (r < 256) ⌝ }
 {

@@ -1,5 +1,5 @@
-// What every command is asked first: whether the table is sound and the store has all its entries, and of the domain that
-// it names whether it exists.
+// What every command is asked first: whether the table is sound and the store has all its entries, and of the domain
+// that it names whether it exists.
 use crate::sight::Sight;
 use geometry::is_domain_id;
 use geometry::store_length;

@@ -1,5 +1,5 @@
-// What a list tells of each block, in the marks: the byte that a descriptor has for it, counted from 1, or 0 for a block that is not
-// listed (from 288), and the P/E index of one that is (from 544).
+// What a list tells of each block, in the marks: the byte that a descriptor has for it, counted from 1, or 0 for a
+// block that is not listed (from 288), and the P/E index of one that is (from 544).
 use crate::marks::number;
 use crate::scan::Subject;
 use model::Block;

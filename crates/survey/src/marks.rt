@@ -1,7 +1,7 @@
 // The marks: what the scan of the blocks has to remember of those before, in a lent row of numbers. For each domain the
-// blocks that it holds (from 0) and has open (from 16); for each place the block that is open there, counted from 1 (from
-// 32); for each key the last block that has it, counted from 1 (from 288), and for each block the one of its key before it
-// (from 544).
+// blocks that it holds (from 0) and has open (from 16); for each place the block that is open there, counted from 1
+// (from 32); for each key the last block that has it, counted from 1 (from 288), and for each block the one of its key
+// before it (from 544).
 ghost use mathlib.Core.Path.{_≡_};
 ghost use Prim.Native.Nat.{_+_, _%_, _<_, _≤_};
 ghost use lib.ListN.{length};

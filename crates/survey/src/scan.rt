@@ -1,5 +1,5 @@
-// The scan of the blocks: block by block it tests the clauses of soundness that speak of one block or of two, and counts each
-// domain's blocks.
+// The scan of the blocks: block by block it tests the clauses of soundness that speak of one block or of two, and
+// counts each domain's blocks.
 use crate::clauses::closed_kept;
 use crate::clauses::domain_index;
 use crate::clauses::is_clear;
@@ -74,7 +74,8 @@ fn take_way(placements: u8, holder: u8, way: Way, n: usize, marks: &mut [u16]) -
     }
 }
 
-// What is left to test of an open block, whose domain counts it at a place among the marks. It is counted, and takes its place.
+// What is left to test of an open block, whose domain counts it at a place among the marks. It is counted, and takes
+// its place.
 fn test_open(
     subject: Subject,
     n: usize,
@@ -125,8 +126,8 @@ fn test_held(subject: Subject, n: usize, block: Block, holder: Domain, marks: &m
     }
 }
 
-// Of a block that is sound, the last before it that has its key, counted from 1, and 0 if there is none: its serial is still to be
-// compared with the serials of the blocks of that chain. 257 of one that is not.
+// Of a block that is sound, the last before it that has its key, counted from 1, and 0 if there is none: its serial is
+// still to be compared with the serials of the blocks of that chain. 257 of one that is not.
 pub fn scan_block(
     subject: Subject,
     n: usize,

@@ -9,8 +9,8 @@ ghost use mathlib.Core.Path.{_≡_};
 ghost use Rattle.model.specs.declared.answer.Answer.the-variants.{Refused};
 ghost use Rattle.tables.specs.Changing.{blockChange, deletionOf, domainChange, leaving, noChange, openingChange, pulseChange};
 
-// The new records of a block and of a domain; a number of none changes none. Or of every block: seconds pass, or those that the
-// domain holds are freed.
+// The new records of a block and of a domain; a number of none changes none. Or of every block: seconds pass, or those
+// that the domain holds are freed.
 pub struct Change {
     pub number: u64,
     pub block: Block,

@@ -1,4 +1,4 @@
-use borrow.Author.Tests.{eq-eqb, eqb-true, ne-eqb, le-leb, lt-leb, lt-ltb, le-ltb, leb-true, ltb-true}
+use borrow.Author.Tests.{le-leb, lt-leb}
 use Rattle.survey.proofs.clauses.closed_kept.Statement.{statement}
 use Rattle.survey.proofs.clauses.closed_kept.Tie as tie
 use Rattle.survey.proofs.clauses.closed_kept.Reads as reads

@@ -1,7 +1,7 @@
 use Prim.Native.Nat.{ℕ, _-_}
 use mathlib.Core.Path.{sym, ap, _∙_}
 use native.Mathlib.Omega.{arith}
-use borrow.Author.Tests.{eq-eqb, eqb-true, ne-eqb, le-leb, lt-leb, lt-ltb, le-ltb, leb-true, ltb-true}
+use borrow.Author.Tests.{eq-eqb, ne-eqb, leb-true, ltb-true}
 use mathlib.Core.Bool.{_&&_}
 use lib.Dec.{leb, ltb}
 use Rattle.geometry.proofs.Laws.Shape.{both}

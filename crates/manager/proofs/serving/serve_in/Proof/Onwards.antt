@@ -32,7 +32,6 @@ use denote.Slice.{Room, finally, sliceVal}
 use denote.Struct.Laws.{lawful, owed, val}
 use denote.Triple.Call.{calls-at}
 use denote.Triple.Statement.{Triple}
-use Rattle.geometry.specs.declared.shape.Config.{Config}
 use Rattle.geometry.proofs.shape.Config as config
 use Rattle.lent_blocks.proofs.Relending.{SliceAt, slice-out}
 use Rattle.model.specs.declared.block.Block.{Block}
@@ -43,7 +42,6 @@ use Rattle.model.proofs.table.Domain as domain
 use Rattle.model.proofs.table.Domain.Laws as domain-laws
 use Rattle.placements.specs.Onwards.{MayGoOn, WrittenOn, restWritten}
 use Rattle.placements.specs.declared.rest.Partial.{Partial}
-use Rattle.placements.specs.declared.rest.Rest.{Rest as Left}
 use Rattle.placements.proofs.rest.Partial as partial
 use Rattle.placements.proofs.rest.Partial.Laws as partial-laws
 use Rattle.placements.proofs.rest.Rest as rests
@@ -55,7 +53,7 @@ use Rattle.tables.specs.declared.change.Change.{Change}
 use Rattle.tables.proofs.change.Change as change
 use Rattle.tables.proofs.change.Change.Laws as change-laws
 use Rattle.manager.proofs.serving.serve_in.Code.Mir.{t-29, t-38}
-use Rattle.manager.proofs.serving.serve_in.Proof.Calls.{onwards-name, WritesOn, LentBlocks, LentStore, LentWords, to-onwards, onwards-may, Ends, onwards-gives}
+use Rattle.manager.proofs.serving.serve_in.Proof.Calls.{onwards-name, WritesOn, LentBlocks, LentStore, LentWords, to-onwards, onwards-may, onwards-gives}
 use Rattle.manager.proofs.serving.serve_in.Proof.Frame.{En, holds, empty}
 use Rattle.manager.proofs.serving.serve_in.Proof.InMemory.{withRecords, Lies, LieBlocks, blocksAt, blocks-field, Rest, blocks-out, blocks-in}
 use Rattle.manager.proofs.serving.serve_in.Proof.Start.{Goes}
