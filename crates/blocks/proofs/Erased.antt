@@ -6,14 +6,13 @@ use mathlib.Core.Option.{Option, none, some}
 use mathlib.Core.Path.{_≡_, refl, sym, ap, subst, _∙_}
 use lib.Dec.{eqb}
 use lib.ListN.{length}
-use borrow.Author.Tests.{eqb-true, leb-true, ltb-true}
+use borrow.Author.Tests.{leb-true, ltb-true}
 use Rattle.blocks.specs.Erasing.{blockQuestions, eraseQuestions, erasedOf}
-use Rattle.blocks.specs.Opening.{MayOpenIn}
+use Rattle.blocks.specs.Opening.{MayOpenFor}
 use Rattle.geometry.proofs.Laws.Questions.{positive}
 use Rattle.geometry.proofs.Laws.Shape.{by-test}
 use Rattle.geometry.specs.Address.{isBlock, isDomainId}
 use Rattle.geometry.specs.Questions.{firstNo, success}
-use Rattle.geometry.specs.Shape.{storeLength}
 use Rattle.model.specs.Answers.{outcomeOf}
 use Rattle.model.specs.declared.answer.Answer.{Answer}
 use Rattle.model.specs.declared.answer.Answer.the-variants as given
@@ -31,13 +30,13 @@ use Rattle.rules.specs.Calls.{calling, lending}
 use Rattle.rules.specs.Drive.{Drive, blockAt, domainAt, overwritten, size, withBlock, withDomain}
 use Rattle.rules.specs.Effects.{Effect, Serves, effect, erasing}
 use Rattle.rules.specs.Questions.{isErasable, laterQuestions}
-use Rattle.survey.proofs.Outcomes.{begun-yes}
-use Rattle.survey.proofs.Seeing.{changed-nothing, changed-opening, sound-limits}
-use Rattle.survey.specs.First.{Begins}
-use Rattle.survey.specs.Sight.{Sees, SeesBlock, SeesChoice, foundIn}
-use Rattle.survey.specs.declared.sight.Found.{Found}
-use Rattle.survey.specs.declared.sight.Found.the-variants as found
-use Rattle.survey.specs.declared.sight.Sight.{Sight}
+use Rattle.scan.proofs.Outcomes.{begun-yes}
+use Rattle.scan.proofs.Seeing.{changed-nothing, changed-opening, sound-limits}
+use Rattle.scan.specs.First.{Begins}
+use Rattle.scan.specs.Summary.{Sees, SeesBlock, SeesChoice, foundIn}
+use Rattle.scan.specs.declared.summary.Found.{Found}
+use Rattle.scan.specs.declared.summary.Found.the-variants as found
+use Rattle.scan.specs.declared.summary.Summary.{Summary}
 use Rattle.tables.proofs.Answering.{accepted-call, then-verdict}
 use Rattle.tables.specs.Changing.{leaving, openingChange, outcomeServed}
 use Rattle.tables.specs.Serving.{ServesCommand, answering, drive, served}
@@ -45,7 +44,7 @@ use Rattle.tables.specs.Serving.{ServesCommand, answering, drive, served}
 -- ---- The questions
 
 -- The record that is seen is asked for no block but one that is named, and for none of another drive: the range comes first.
-pub erase-asked : (t : Table) (store : List ℕ) (entries words bytes d n : ℕ) (x : Sight) → Sees t d x → (eqb n anyBlock ≡ false → SeesBlock t n x)
+pub erase-asked : (t : Table) (store : List ℕ) (entries words bytes d n : ℕ) (x : Summary) → Sees t d x → (eqb n anyBlock ≡ false → SeesBlock t n x)
     → x .sound ≡ true → isDomainId d ≡ true
     → firstNo (eraseQuestions t x d n) ≡ firstNo (laterQuestions (Erase d n) (drive t store) (lending (Erase d n) entries words bytes))
 unfolding firstNo eraseQuestions blockQuestions
@@ -71,7 +70,7 @@ chosen-opens t n b (found.Block m) any same is = (rw any (sym same), sym (is m (
 number-inside : (t : Table) (n : ℕ) → isErasable t n ≡ true → eqb n anyBlock ≡ false → n < size t
 number-inside t n range other = ltb-true n (size t) (the-first (isBlock (t .config) n) (eqb n anyBlock) range other)
 
-pub opens : (t : Table) (d n : ℕ) (x : Sight) → Sees t d x → (eqb n anyBlock ≡ false → SeesBlock t n x)
+pub opens : (t : Table) (d n : ℕ) (x : Summary) → Sees t d x → (eqb n anyBlock ≡ false → SeesBlock t n x)
     → (eqb n anyBlock ≡ true → SeesChoice t x) → x .sound ≡ true → isErasable t n ≡ true → Opens t n (x .block) (erasedOf x n)
 unfolding erasedOf
 opens t d n x s b f e range =
@@ -93,21 +92,19 @@ opens-inside t n m range e =
 -- ---- What it may and does
 
 -- The number of an accepted Erase is in range.
-pub erase-range : (t : Table) (d n : ℕ) (x : Sight) → Sees t d x → firstNo (eraseQuestions t x d n) ≡ 0 → isErasable t n ≡ true
+pub erase-range : (t : Table) (d n : ℕ) (x : Summary) → Sees t d x → firstNo (eraseQuestions t x d n) ≡ 0 → isErasable t n ≡ true
 unfolding positive eraseQuestions blockQuestions
 erase-range t d n x s pass = rw (s .same-config) at (yes-in 6 (eraseQuestions t x d n) refl pass)
 
--- Questions 3, 4, 6 and 12 of a sound table let it be opened.
-pub may-open : (t : Table) (entries d n m : ℕ) (x : Sight) → Sees t d x → Begins t (Erase d n) entries
-    → firstNo (eraseQuestions t x d n) ≡ 0 → erasedBlock t n ≡ some m
-    → MayOpenIn (x .config) entries (x .domain) d m
+-- Questions 4 and 12 of a sound table let it be opened.
+pub may-open : (t : Table) (entries d n : ℕ) (x : Summary) → Sees t d x → Begins t (Erase d n) entries
+    → firstNo (eraseQuestions t x d n) ≡ 0
+    → MayOpenFor (x .config) (x .domain) d
 unfolding positive eraseQuestions blockQuestions
-may-open t entries d n m x s first pass found =
+may-open t entries d n x s first pass =
     record {
       limits = rw (s .same-config) (sound-limits t (begun-yes 2 t (Erase d n) entries first));
       id = begun-yes 4 t (Erase d n) entries first;
-      inside = rw (s .same-config) (opens-inside t n m (erase-range t d n x s pass) found);
-      entries = rw (s .same-config) (eqb-true entries (storeLength (t .config) .0) (begun-yes 3 t (Erase d n) entries first));
       serial = rw (s .same-domain) (leb-true (domainAt t d .last + 1) 4294967295 (yes-in 12 (eraseQuestions t x d n) refl pass));
     }
 

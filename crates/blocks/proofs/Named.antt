@@ -12,11 +12,11 @@ use Rattle.model.specs.declared.table.Table.{Table}
 use Rattle.rules.proofs.Questions.{yes-in}
 use Rattle.rules.specs.Drive.{heldBy, size}
 use Rattle.rules.specs.Questions.{heldBlockQuestions}
-use Rattle.survey.specs.Sight.{Sees, SeesBlock}
-use Rattle.survey.specs.declared.sight.Sight.{Sight}
+use Rattle.scan.specs.Summary.{Sees, SeesBlock}
+use Rattle.scan.specs.declared.summary.Summary.{Summary}
 
 -- The record that is seen is asked for no block of another drive: the range comes first.
-pub named-asked : (t : Table) (d n : ℕ) (x : Sight) → Sees t d x → SeesBlock t n x → x .sound ≡ true
+pub named-asked : (t : Table) (d n : ℕ) (x : Summary) → Sees t d x → SeesBlock t n x → x .sound ≡ true
     → firstNo (ask 6 (isBlock (x .config) n) ∷ ask 9 (heldBy d (x .block)) ∷ [])
     ≡ firstNo (heldBlockQuestions t d n)
 unfolding firstNo

@@ -9,19 +9,19 @@ use Rattle.model.specs.declared.table.Table.{Table}
 use Rattle.rules.specs.Blocks.{anyBlock}
 use Rattle.rules.specs.Counting.{implies}
 use Rattle.rules.specs.Drive.{heldBy, isClosed, isFree}
-use Rattle.survey.specs.declared.sight.Found.{Found}
-use Rattle.survey.specs.declared.sight.Found.the-variants as found
-use Rattle.survey.specs.declared.sight.Sight.{Sight}
+use Rattle.scan.specs.declared.summary.Found.{Found}
+use Rattle.scan.specs.declared.summary.Found.the-variants as found
+use Rattle.scan.specs.declared.summary.Summary.{Summary}
 use Rattle.tables.specs.Verdicts.{newBlocksQuestions}
 
 -- ---- The questions
 
 -- Does Erase name a block that the domain holds?
-abbrev pub opensAgain : Sight → ℕ → ℕ → Bool
+abbrev pub opensAgain : Summary → ℕ → ℕ → Bool
 opensAgain x d n = not (eqb n anyBlock) && heldBy d (x .block)
 
 -- 6, 9 and 10, ..
-unfoldable pub blockQuestions : Sight → ℕ → ℕ → List Question
+unfoldable pub blockQuestions : Summary → ℕ → ℕ → List Question
 blockQuestions x d n =
     ask 6 (isBlock (x .config) n || eqb n anyBlock)
     ∷ ask 9 (eqb n anyBlock || isFree (x .block) || heldBy d (x .block))
@@ -29,15 +29,15 @@ blockQuestions x d n =
     ∷ []
 
 -- .. and 6 to 14. A held block that is opened again isn't new.
-abbrev pub newErased : Sight → ℕ → ℕ → ℕ
+abbrev pub newErased : Summary → ℕ → ℕ → ℕ
 newErased x d n = cond (opensAgain x d n) 0 1
 
-unfoldable pub eraseQuestions : Table → Sight → ℕ → ℕ → List Question
+unfoldable pub eraseQuestions : Table → Summary → ℕ → ℕ → List Question
 eraseQuestions t x d n =
     blockQuestions x d n ++ (ask 11 (ltb (x .opened) (x .domain .limit)) ∷ newBlocksQuestions t d 1 (newErased x d n))
 
 -- ---- The block that is opened
 
 -- For FFFFFFFFh the chosen one, if there is one, and else that of the number.
-unfoldable pub erasedOf : Sight → ℕ → Found
+unfoldable pub erasedOf : Summary → ℕ → Found
 erasedOf x n = cond (eqb n anyBlock) (x .found) (found.Block n)

@@ -6,6 +6,7 @@ mod opening;
 
 pub use closing::close;
 pub use closing::free;
+pub use erasing::ANY_BLOCK;
 pub use erasing::erase;
 pub use opening::Opened;
 pub use opening::new_blocks_verdict;

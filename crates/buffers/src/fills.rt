@@ -2,7 +2,7 @@
 ghost use mathlib.Core.Bool.{true};
 ghost use mathlib.Core.Path.{_≡_};
 ghost use Prim.Native.Nat.{_+_, _≤_};
-ghost use lib.ListN.{drop, length, take};
+ghost use lib.ListN.{length};
 ghost use Rattle.buffers.specs.Rows.{entryAt};
 ghost use Rattle.geometry.specs.Bytes.{littleEndian};
 ghost use Rattle.rules.specs.Counting.{rowTo};
@@ -16,22 +16,14 @@ fn entry(first: u64, rises: bool, i: u64) -> u64
     if rises { first + i } else { first }
 }
 
-fn fill(part: &mut [u64], first: u64, rises: bool)
+// A part that is filled from its first entry to its last.
+pub fn put_row(part: &mut [u64], first: u64, rises: bool)
     requires { ⌜ (rises ≡ true → first + length (now part) ≤ 18446744073709551616) ⌝ }
     ensures { λ _. ⌜ now (part .exit) ≡ rowTo (entryAt first rises) (length (now (part .entry))) ⌝ }
 {
     for i in 0..part.len() {
         part[i] = entry(first, rises, i as u64);
     }
-}
-
-pub fn put_row(row: &mut [u64], at: usize, count: usize, first: u64, rises: bool)
-    requires { ⌜ at + count ≤ length (now row) ⌝ }
-    requires { ⌜ (rises ≡ true → first + count ≤ 18446744073709551616) ⌝ }
-    ensures { λ _. ⌜ now (row .exit) ≡ overwritten at (rowTo (entryAt first rises) count) (now (row .entry)) ⌝ }
-{
-    let end = at + count;
-    fill(&mut row[at..end], first, rises);
 }
 
 fn copy(part: &mut [u64], from: &[u64])
@@ -43,13 +35,13 @@ fn copy(part: &mut [u64], from: &[u64])
     }
 }
 
-// A stretch of another row, to the front.
-pub fn put_stretch(row: &mut [u64], from: &[u64], at: usize, count: usize)
-    requires { ⌜ (count ≤ length (now row)) × (at + count ≤ length (now from)) ⌝ }
-    ensures { λ _. ⌜ now (row .exit) ≡ overwritten 0 (take count (drop at (now (from .entry)))) (now (row .entry)) ⌝ }
+// A part of another row, to the front.
+pub fn put_stretch(row: &mut [u64], part: &[u64])
+    requires { ⌜ length (now part) ≤ length (now row) ⌝ }
+    ensures { λ _. ⌜ now (row .exit) ≡ overwritten 0 (now (part .entry)) (now (row .entry)) ⌝ }
 {
-    let end = at + count;
-    copy(&mut row[0..count], &from[at..end]);
+    let count = part.len();
+    copy(&mut row[0..count], part);
 }
 
 // The low bytes of a number, the lowest first, as many as there is room for.

@@ -24,11 +24,11 @@ use Rattle.rules.specs.Domains.{arePlaneCounts, changedDomain, coveredWith}
 use Rattle.rules.specs.Drive.{heldCount, withDomain}
 use Rattle.rules.specs.Effects.{Fills, changing, effect}
 use Rattle.rules.specs.Questions.{laterQuestions}
-use Rattle.survey.proofs.Outcomes.{change-outcome, then-outcome}
-use Rattle.survey.proofs.Seeing.{changed-domain}
-use Rattle.survey.specs.First.{Begins}
-use Rattle.survey.specs.Sight.{Sees}
-use Rattle.survey.specs.declared.sight.Sight.{Sight}
+use Rattle.scan.proofs.Outcomes.{change-outcome, then-outcome}
+use Rattle.scan.proofs.Seeing.{changed-domain}
+use Rattle.scan.specs.First.{Begins}
+use Rattle.scan.specs.Summary.{Sees}
+use Rattle.scan.specs.declared.summary.Summary.{Summary}
 use Rattle.tables.specs.Changing.{domainChange, outcomeServed}
 use Rattle.tables.specs.Serving.{ServesCommand, drive, served}
 
@@ -60,7 +60,7 @@ create-range c guarantee quota placements limit e =
     (k .0, (is-between 1 16 placements (k .1) .most, is-between 0 256 limit (h .1) .most))
 
 -- The new record is the rules'.
-pub changed-seen : (t : Table) (d : ℕ) (x : Sight) (guarantee quota : Planes) → Sees t d x → x .sound ≡ true → isDomainId d ≡ true
+pub changed-seen : (t : Table) (d : ℕ) (x : Summary) (guarantee quota : Planes) → Sees t d x → x .sound ≡ true → isDomainId d ≡ true
     → changedFrom (x .config) (x .domain) (x .held) guarantee quota ≡ changedDomain t d guarantee quota
 unfolding changedFrom changedDomain
 changed-seen t d x guarantee quota s e id = rw (s .same-config, s .same-domain, s .holds e id)

@@ -7,7 +7,7 @@ ghost use Prim.Native.Nat.{ℕ};
 ghost use lib.ListN.{length};
 ghost use Rattle.model.specs.declared.command.Command.the-variants.{Delete};
 ghost use Rattle.model.specs.declared.table.Table.{Table};
-ghost use Rattle.survey.specs.First.{Begins};
+ghost use Rattle.scan.specs.First.{Begins};
 ghost use Rattle.tables.specs.Changing.{outcomeServed};
 ghost use Rattle.tables.specs.Serving.{ServesCommand, served};
 

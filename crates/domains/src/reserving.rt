@@ -6,8 +6,8 @@ use geometry::whole_blocks;
 use model::Answer;
 use model::Domain;
 use model::Refusal;
-use survey::Sight;
-use survey::covered_with;
+use scan::Summary;
+use scan::covered_with;
 use tables::Outcome;
 use tables::domain_change;
 use tables::refusal;
@@ -21,8 +21,8 @@ ghost use Rattle.geometry.specs.Shape.{wholeBlocks, withinLimits};
 ghost use Rattle.model.specs.declared.command.Command.the-variants.{ChangeCapacity, Create};
 ghost use Rattle.model.specs.declared.table.Table.{Table};
 ghost use Rattle.rules.specs.Domains.{arePlaneCounts, createdDomain, newBlockCount, openLimit};
-ghost use Rattle.survey.specs.First.{Begun};
-ghost use Rattle.survey.specs.Sight.{Seen, Sees};
+ghost use Rattle.scan.specs.First.{FirstPassed};
+ghost use Rattle.scan.specs.Summary.{Seen, Sees};
 ghost use Rattle.tables.specs.Changing.{outcomeServed};
 ghost use Rattle.tables.specs.Serving.{ServesCommand, served};
 
@@ -50,12 +50,12 @@ fn larger_count(a: u32, b: u32) -> u32
 }
 
 // A domain's new record is put in its place if the guarantees stay covered.
-fn reserved(sight: Sight, domain: u64, new: Domain) -> Outcome
-    requires { ⌜ Seen domain sight × (sight .sound ≡ true) ⌝ }
+fn reserved(summary: Summary, domain: u64, new: Domain) -> Outcome
+    requires { ⌜ Seen domain summary × (summary .sound ≡ true) ⌝ }
     requires { ⌜ isDomainId domain ≡ true ⌝ }
-    ensures { λ r. ⌜ ((t : Table) → Sees t domain sight → r ≡ reserved t domain new) ⌝ }
+    ensures { λ r. ⌜ ((t : Table) → Sees t domain summary → r ≡ reserved t domain new) ⌝ }
 {
-    if covered_with(sight, domain, new.reserved as u64, sight.held) {
+    if covered_with(summary, domain, new.reserved as u64, summary.held) {
         return Outcome {
             answer: Answer::Done,
             change: domain_change(domain, new),
@@ -113,20 +113,20 @@ fn created_domain(
 
 // A new domain, if the guarantees stay covered with its own.
 pub fn create(
-    sight: Sight,
+    summary: Summary,
     domain: u64,
     guarantee: Planes,
     quota: Planes,
     placements: u64,
     limit: u64,
 ) -> Outcome
-    requires { ⌜ Seen domain sight × Begun (Create domain guarantee quota placements limit) 0 sight ⌝ }
-    ensures { λ r. ⌜ ((t : Table) (store words bytes : List ℕ) → Sees t domain sight → ServesCommand t (Create domain guarantee quota placements limit) store words bytes (served (outcomeServed t r) store words bytes)) ⌝ }
+    requires { ⌜ Seen domain summary × FirstPassed (Create domain guarantee quota placements limit) 0 summary ⌝ }
+    ensures { λ r. ⌜ ((t : Table) (store words bytes : List ℕ) → Sees t domain summary → ServesCommand t (Create domain guarantee quota placements limit) store words bytes (served (outcomeServed t r) store words bytes)) ⌝ }
 {
-    let config = sight.config;
+    let config = summary.config;
     if in_range(config, guarantee, quota, placements, limit) {
         let new = created_domain(config, guarantee, quota, placements, limit);
-        return reserved(sight, domain, new);
+        return reserved(summary, domain, new);
     }
     refusal(Refusal::Range)
 }
@@ -145,15 +145,15 @@ fn new_block_count(config: Config, n: Planes, present: u32) -> u32
     }
 }
 
-fn changed_domain(sight: Sight, guarantee: Planes, quota: Planes) -> Domain
-    requires { ⌜ withinLimits (sight .config) ≡ true ⌝ }
-    requires { ⌜ arePlaneCounts (sight .config) guarantee quota ≡ true ⌝ }
-    requires { ⌜ sight .held ≤ 256 ⌝ }
-    ensures { λ r. ⌜ r ≡ changedFrom (sight .config) (sight .domain) (sight .held) guarantee quota ⌝ }
+fn changed_domain(summary: Summary, guarantee: Planes, quota: Planes) -> Domain
+    requires { ⌜ withinLimits (summary .config) ≡ true ⌝ }
+    requires { ⌜ arePlaneCounts (summary .config) guarantee quota ≡ true ⌝ }
+    requires { ⌜ summary .held ≤ 256 ⌝ }
+    ensures { λ r. ⌜ r ≡ changedFrom (summary .config) (summary .domain) (summary .held) guarantee quota ⌝ }
 {
-    let config = sight.config;
-    let present = sight.domain;
-    let held = sight.held as u32;
+    let config = summary.config;
+    let present = summary.domain;
+    let held = summary.held as u32;
     let reserved = new_block_count(config, guarantee, present.reserved);
     let quota = new_block_count(config, quota, present.quota);
     let mut new = present;
@@ -163,14 +163,14 @@ fn changed_domain(sight: Sight, guarantee: Planes, quota: Planes) -> Domain
 }
 
 // Another guarantee and quota; 0 keeps the present one, and the quota does not fall below what is held.
-pub fn change_capacity(sight: Sight, domain: u64, guarantee: Planes, quota: Planes) -> Outcome
-    requires { ⌜ Seen domain sight × Begun (ChangeCapacity domain guarantee quota) 0 sight ⌝ }
-    ensures { λ r. ⌜ ((t : Table) (store words bytes : List ℕ) → Sees t domain sight → ServesCommand t (ChangeCapacity domain guarantee quota) store words bytes (served (outcomeServed t r) store words bytes)) ⌝ }
+pub fn change_capacity(summary: Summary, domain: u64, guarantee: Planes, quota: Planes) -> Outcome
+    requires { ⌜ Seen domain summary × FirstPassed (ChangeCapacity domain guarantee quota) 0 summary ⌝ }
+    ensures { λ r. ⌜ ((t : Table) (store words bytes : List ℕ) → Sees t domain summary → ServesCommand t (ChangeCapacity domain guarantee quota) store words bytes (served (outcomeServed t r) store words bytes)) ⌝ }
 {
-    let config = sight.config;
+    let config = summary.config;
     if are_plane_counts(config, guarantee, quota) {
-        let new = changed_domain(sight, guarantee, quota);
-        return reserved(sight, domain, new);
+        let new = changed_domain(summary, guarantee, quota);
+        return reserved(summary, domain, new);
     }
     refusal(Refusal::Range)
 }

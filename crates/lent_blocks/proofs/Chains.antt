@@ -11,8 +11,8 @@ use Rattle.geometry.proofs.Laws.Shape.{by-test}
 use Rattle.model.specs.declared.block.Block.{Block}
 use Rattle.rules.proofs.Counting.{by-eq}
 use Rattle.rules.specs.Drive.{clearBlock}
-use Rattle.survey.specs.Marks.{chainBefore, chainDiffers, chainDiffersIn, mark, sameSerial}
-use Rattle.survey.specs.Scan.{chainPasses}
+use Rattle.scan.specs.Marks.{chainBefore, chainDiffers, chainDiffersIn, mark, sameSerial}
+use Rattle.scan.specs.Scan.{chainPasses}
 
 -- A chain leads to smaller numbers.
 chain-falls : (m : List ℕ) (at : ℕ) → 0 < at → chainBefore m at < at

@@ -6,35 +6,32 @@ use mathlib.Core.Option.{Option, none, some}
 use mathlib.Core.Path.{_≡_, refl, sym, ap, subst, _∙_}
 use native.Mathlib.Omega.{arith}
 use lib.Dec.{ltb}
-use lib.ListN.{drop, getD, length, length-append, set, take-append-drop, List·getD-append}
+use lib.ListN.{drop, getD, length, length-append, set, List·getD-append}
 use lib.Seq.{getD-set-same, set-append-left}
 use borrow.Author.Tests.{lt-ltb, ne-eqb}
 use Rattle.geometry.proofs.Laws.Shape.{by-test, is-between, limits}
 use Rattle.geometry.specs.Address.{isDomainId}
-use Rattle.geometry.specs.Shape.{withinLimits}
+use Rattle.geometry.specs.Shape.{noConfig, withinLimits}
 use Rattle.geometry.specs.declared.shape.Config.{Config}
 use Rattle.model.specs.declared.block.Block.{Block}
 use Rattle.model.specs.declared.table.Domain.{Domain}
 use Rattle.model.specs.declared.table.Table.{Table}
 use Rattle.placements.proofs.Next.{set-twice}
-use Rattle.placements.proofs.Stepping.{rest-none, rest-zero}
-use Rattle.placements.specs.Onwards.{GoesOn, MayGoOn, OpenedNext, WrittenOn, nothingLeft}
+use Rattle.placements.proofs.Stepping.{new-less, rest-none, went-nowhere}
+use Rattle.placements.proofs.Words.{overwritten-none}
+use Rattle.placements.specs.Onwards.{GoesOn, MayGoOn, OpenedNext, WroteOnwards, nothingLeft, restAfterNew}
 use Rattle.placements.specs.declared.filling.Filled.{Filled}
 use Rattle.placements.specs.declared.rest.Rest.{Rest}
 use Rattle.rules.proofs.Blocks.{Choice, choice}
 use Rattle.rules.proofs.Drive.{overwritten-nothing}
 use Rattle.rules.specs.Blocks.{Written, chosenBlock, chosenTo}
-use Rattle.rules.specs.Drive.{blockAt, clearBlock, clearDomain, domainAt, overwritten, size, withBlock, withDomain}
-use Rattle.survey.proofs.Choices.{chosen-found}
-use Rattle.survey.specs.Free.{Chosen, noCandidate}
-use Rattle.survey.specs.Sight.{foundIn, foundOf}
-use Rattle.survey.specs.declared.free.Candidate.{Candidate}
+use Rattle.rules.specs.Drive.{blockAt, clearBlock, clearDomain, domainAt, isFree, overwritten, size, withBlock, withDomain}
+use Rattle.scan.proofs.Choices.{chosen-found}
+use Rattle.scan.specs.Free.{Chosen, noCandidate}
+use Rattle.scan.specs.Summary.{foundIn, foundOf}
+use Rattle.scan.specs.declared.free.Candidate.{Candidate}
 use Rattle.tables.specs.Changing.{presentBlocks, tableWith, withOwner}
 use Rattle.tables.specs.Serving.{drive}
-
-nothing-at : (k : ℕ) (words : List ℕ) → overwritten k [] words ≡ words
-unfolding overwritten
-nothing-at k words = take-append-drop k words
 
 -- The records bs are those of the drive's blocks, and r is the one of domain d.
 module _ (t : Table) (bs : List Block) (d : ℕ) (r : Domain) (long : length bs ≡ size t) where
@@ -61,14 +58,23 @@ module _ (t : Table) (bs : List Block) (d : ℕ) (r : Domain) (long : length bs 
   chosen-in c within walk =
       chosen-found u bs c (omega (arith, long, limits (t .config) within .ranges .blocks .most)) block-in walk ∙ ap (chosenTo u) long
 
+-- The one that is chosen is Free.
+pub chosen-free : (bs : List Block) (best : Candidate) → length bs ≤ 256 → Chosen 0 bs noCandidate best → best .number < length bs
+    → isFree (getD bs (best .number) clearBlock) ≡ true
+chosen-free bs best few walk l =
+    let t : Table = record { config = noConfig; domains = []; blocks = bs } in
+    let found = chosen-found t bs best few (λ i k. refl) walk in
+    let is : chosenTo t (length bs) ≡ some (best .number) = sym found ∙ rw (lt-ltb (best .number) 256 (omega (arith, l, few))) in
+    subst (λ (o : Option ℕ). Choice t (length bs) o) is (choice t (length bs)) .free
+
 -- The next block is one of the drive: it is opened and filled.
 pub next-opened : (c : Config) (d n : ℕ) (r r′ : Rest) (bs : List Block) (owner owner′ : Domain) (b : Block) (best : Candidate)
-    (store words store′ words′ : List ℕ) (entries room : ℕ)
-    → MayGoOn c entries room d owner r → length bs ≡ c .blocks → Chosen 0 bs noCandidate best → best .number ≡ n → n < length bs
+    (store words store′ words′ : List ℕ) (entries wordCount : ℕ)
+    → MayGoOn c entries wordCount d owner r → length bs ≡ c .blocks → Chosen 0 bs noCandidate best → best .number ≡ n → n < length bs
     → ((t : Table) → t .config ≡ c → domainAt t d ≡ owner → blockAt t n ≡ getD bs n clearBlock → n < length (t .blocks) → chosenBlock t ≡ some n
     → GoesOn d r (drive t store) words r′ (drive (withDomain d owner′ (withBlock n b t)) store′) words′)
     → OpenedNext c d r bs owner store words r′ (set bs n b) owner′ store′ words′
-next-opened c d n r r′ bs owner owner′ b best store words store′ words′ entries room m long walk is l fills t same all =
+next-opened c d n r r′ bs owner owner′ b best store words store′ words′ entries wordCount m long walk is l fills t same all =
     let whole : length bs ≡ size t = long ∙ ap (λ (x : Config). x .blocks) (sym same) in
     let within : withinLimits (t .config) ≡ true = ap withinLimits same ∙ m .within in
     let u = tableWith bs d owner t in
@@ -80,10 +86,10 @@ next-opened c d n r r′ bs owner owner′ b best store words store′ words′ 
     (fills u same (owner-in t bs d owner whole (m .id) all) (block-in t bs d owner whole n l) inside chosen)
 
 -- None is: nothing is written, and nothing is left.
-pub next-none : (c : Config) (d : ℕ) (r : Rest) (bs : List Block) (owner : Domain) (best : Candidate) (store words : List ℕ) (entries room : ℕ)
-    → MayGoOn c entries room d owner r → length bs ≡ c .blocks → Chosen 0 bs noCandidate best → length bs ≤ best .number
+pub next-none : (c : Config) (d : ℕ) (r : Rest) (bs : List Block) (owner : Domain) (best : Candidate) (store words : List ℕ) (entries wordCount : ℕ)
+    → MayGoOn c entries wordCount d owner r → length bs ≡ c .blocks → Chosen 0 bs noCandidate best → length bs ≤ best .number
     → OpenedNext c d r bs owner store words nothingLeft bs owner store words
-next-none c d r bs owner best store words entries room m long walk l t same all w last went =
+next-none c d r bs owner best store words entries wordCount m long walk l t same all w last went =
     let whole : length bs ≡ size t = long ∙ ap (λ (x : Config). x .blocks) (sym same) in
     let within : withinLimits (t .config) ≡ true = ap withinLimits same ∙ m .within in
     let u = tableWith bs d owner t in
@@ -92,7 +98,7 @@ next-none c d r bs owner best store words entries room m long walk l t same all 
     let nothing = rest-none d r (drive u store) none-chosen in
     record {
       leaves = went .leaves ∙ ap (λ (x : Written). x .drive) (sym nothing);
-      fills = went .fills ∙ overwritten-nothing words ∙ sym (nothing-at (r .done) words)
+      fills = went .fills ∙ overwritten-nothing words ∙ sym (overwritten-none (r .done) words)
           ∙ ap (λ (x : Written). overwritten (r .done) (x .addresses) words) (sym nothing);
     }
   where
@@ -118,18 +124,21 @@ next-none c d r bs owner best store words entries room m long walk l t same all 
 -- What `open_next` ensures of its result f, and of the blocks, the store and the words at the exit.
 abbrev pub Opens : Config → ℕ → Domain → Rest → List Block → List ℕ → List ℕ → Filled → List Block → List ℕ → List ℕ → Type 0
 Opens c d owner r bs store words f bs′ store′ words′ =
-    (f .rest .count .0 < r .count .0) × (¬ (f .rest .count .0 ≡ 0) → MayGoOn c (length store′) (length words′) d (f .owner) (f .rest))
+    ((best : Candidate) × Chosen 0 bs noCandidate best × (f .rest ≡ restAfterNew c (best .number) r))
+    × (¬ (f .rest .count .0 ≡ 0) → MayGoOn c (length store′) (length words′) d (f .owner) (f .rest))
     × OpenedNext c d r bs owner store words (f .rest) bs′ (f .owner) store′ words′
 
+-- Less is left then.
+pub opens-less : (c : Config) (d : ℕ) (owner : Domain) (r : Rest) (bs : List Block) (store words : List ℕ) (f : Filled) (bs′ : List Block) (store′ words′ : List ℕ)
+    → withinLimits c ≡ true → ¬ (r .count .0 ≡ 0) → Opens c d owner r bs store words f bs′ store′ words′ → f .rest .count .0 < r .count .0
+opens-less c d owner r bs store words f bs′ store′ words′ within ne opens = rw (opens .0 .2) (new-less c (opens .0 .0 .number) r within ne)
+
 -- Once nothing is left, all is written.
-pub all-written : (c : Config) (d : ℕ) (r left : Rest) (bs bs′ : List Block) (owner owner′ : Domain) (store words store′ words′ : List ℕ) → left .count .0 ≡ 0
-    → OpenedNext c d r bs owner store words left bs′ owner′ store′ words′ → WrittenOn c d r bs owner store words bs′ owner′ store′ words′
-all-written c d r left bs bs′ owner owner′ store words store′ words′ over goes t same all =
-    let nothing = rest-zero d left (drive (tableWith bs′ d owner′ t) store′) over in
-    goes t same all (drive (tableWith bs′ d owner′ t) store′) words′ record {
-      leaves = ap (λ (x : Written). x .drive) (sym nothing);
-      fills = sym (nothing-at (left .done) words′) ∙ ap (λ (x : Written). overwritten (left .done) (x .addresses) words′) (sym nothing);
-    }
+pub all-written : (c : Config) (d : ℕ) (r left : Rest) (bs bs′ : List Block) (owner owner′ : Domain) (store words store′ words′ : List ℕ)
+    → (r .count .0 ≡ 0 → owner′ ≡ owner) → left .count .0 ≡ 0
+    → OpenedNext c d r bs owner store words left bs′ owner′ store′ words′ → WroteOnwards c d r bs owner store words bs′ owner′ store′ words′
+all-written c d r left bs bs′ owner owner′ store words store′ words′ same-owner over goes =
+    (same-owner, λ t same all. let v = drive (tableWith bs′ d owner′ t) store′ in goes t same all v words′ (went-nowhere d left v words′ over))
 
 -- Within the limits, the blocks that are present are those of the configuration.
 pub all-present : (c : Config) → withinLimits c ≡ true → presentBlocks c ≡ c .blocks

@@ -10,9 +10,9 @@ use Rattle.model.specs.declared.block.Block.{Block}
 use Rattle.model.specs.declared.table.Domain.{Domain}
 use Rattle.rules.proofs.Counting.{clash}
 use Rattle.rules.specs.Drive.{clearBlock, clearDomain}
-use Rattle.survey.specs.Clauses.{domainIndex}
-use Rattle.survey.specs.Scan.{Scanned, Walked, chainPasses}
-use Rattle.survey.specs.declared.scan.Subject.{Subject}
+use Rattle.scan.specs.Clauses.{domainIndex}
+use Rattle.scan.specs.Scan.{Scanned, Walked, chainPasses}
+use Rattle.scan.specs.declared.scan.Subject.{Subject}
 
 -- Block i, and the record of the domain that holds it.
 abbrev pub blockOf : List Block → ℕ → Block
@@ -46,14 +46,14 @@ module _ (s : Subject) (rs : List Domain) (bs : List Block) where
       )
 
   -- .. and at one that does not it stops.
-  pub walk-stops : (i last : ℕ) (us vs ws : List ℕ) → i < length bs → Scanned s i (blockOf bs i) (holderOf rs bs i) last us vs
-      → chainPasses bs vs (blockOf bs i) last ≡ false → WalkedFrom i false us ws
+  pub walk-stops : (i last : ℕ) (us vs : List ℕ) → i < length bs → Scanned s i (blockOf bs i) (holderOf rs bs i) last us vs
+      → chainPasses bs vs (blockOf bs i) last ≡ false → WalkedFrom i false us vs
   unfolding Walked
-  walk-stops i last us vs ws small scanned fails =
-      subst (λ (zs : List Block). Walked s rs bs i zs false us ws) (sym (drop-cons bs i clearBlock small)) (
+  walk-stops i last us vs small scanned fails =
+      subst (λ (zs : List Block). Walked s rs bs i zs false us vs) (sym (drop-cons bs i clearBlock small)) (
         last,
         vs,
         scanned,
-        λ _. refl,
+        λ _. (refl, refl),
         λ passes. clash (chainPasses bs vs (blockOf bs i) last) passes fails,
       )

@@ -1,5 +1,5 @@
-// What is read and changed in lent slices of block records: each function walks them and calls what is
-// proved of one record.
+// What is read and changed in lent slices of block records: one record by its number, or all of them in a walk that
+// calls what is proved of one record.
 use countdown::count_down;
 use geometry::Config;
 use model::Block;
@@ -8,30 +8,31 @@ use placements::Filled;
 use placements::Rest;
 use placements::fill_next;
 use placements::nothing_left;
-use survey::Candidate;
-use survey::Subject;
-use survey::chain_before;
-use survey::choose;
-use survey::holder_index;
-use survey::no_candidate;
-use survey::not_sound;
-use survey::put_listed;
-use survey::same_serial;
-use survey::scan_block;
+use scan::Candidate;
+use scan::Subject;
+use scan::chain_before;
+use scan::choose;
+use scan::holder_index;
+use scan::no_candidate;
+use scan::not_sound;
+use scan::put_listed;
+use scan::same_serial;
+use scan::scan_block;
 use tables::Change;
 use tables::clear_block;
 ghost use Prim.Native.Nat.{_<_, _≤_};
+ghost use mathlib.Core.Bool.{true};
 ghost use mathlib.Core.List.{List, map};
 ghost use mathlib.Core.Path.{_≡_};
 ghost use lib.ListN.{getD, length, set, take};
 ghost use Rattle.rules.specs.Domains.{freedIfHeld};
-ghost use Rattle.rules.specs.Drive.{clearBlock};
-ghost use Rattle.placements.specs.Onwards.{MayGoOn, OpenedNext, WrittenOn};
+ghost use Rattle.rules.specs.Drive.{clearBlock, isFree};
+ghost use Rattle.placements.specs.Onwards.{MayGoOn, OpenedNext, WroteOnwards, restAfterNew};
 ghost use Rattle.tables.specs.Changing.{changedBlocks, presentBlocks};
-ghost use Rattle.survey.specs.Marks.{markCount};
-ghost use Rattle.survey.specs.Free.{Chosen, noCandidate};
-ghost use Rattle.survey.specs.Listing.{listedFrom};
-ghost use Rattle.survey.specs.Scan.{Walked, chainPasses};
+ghost use Rattle.scan.specs.Marks.{markCount};
+ghost use Rattle.scan.specs.Free.{Chosen, noCandidate};
+ghost use Rattle.scan.specs.Listing.{listedFrom};
+ghost use Rattle.scan.specs.Scan.{Walked, chainPasses};
 
 // Has no block of a chain, from one on that is counted from 1, the serial of this one? 257 is no chain. Each block
 // leads to one before it.
@@ -56,7 +57,8 @@ fn chain_passes(blocks: &[Block], marks: &[u16], last: usize, block: Block) -> b
     true
 }
 
-// Are the blocks sound, as far as blocks alone can tell? Each is counted in the marks.
+// Are the blocks sound, as far as blocks alone can tell? Those that are held are counted in the marks, up to the first
+// that is not sound.
 pub fn scan_blocks(
     blocks: &[Block],
     domains: &[Domain],
@@ -179,8 +181,8 @@ fn fill_chosen(
     store: &mut [u64],
     words: &mut [u64],
 ) -> Filled
-    requires { ⌜ MayGoOn config (length (now store)) (length (now words)) domain owner rest × (¬ (rest .count .0 ≡ 0)) ⌝ }
-    ensures { λ r. ⌜ (r .rest .count .0 < rest .count .0) × (¬ (r .rest .count .0 ≡ 0) → MayGoOn config (length (now (store .exit))) (length (now (words .exit))) domain (r .owner) (r .rest)) × ((bs : List Block) (best : Candidate) → length bs ≡ config .blocks → Chosen 0 bs noCandidate best → best .number ≡ n → getD bs n clearBlock ≡ block → OpenedNext config domain rest bs owner (now (store .entry)) (now (words .entry)) (r .rest) (set bs n (r .block)) (r .owner) (now (store .exit)) (now (words .exit))) ⌝ }
+    requires { ⌜ MayGoOn config (length (now store)) (length (now words)) domain owner rest × (¬ (rest .count .0 ≡ 0)) × (n < config .blocks → isFree block ≡ true) ⌝ }
+    ensures { λ r. ⌜ (r .rest ≡ restAfterNew config n rest) × (¬ (r .rest .count .0 ≡ 0) → MayGoOn config (length (now (store .exit))) (length (now (words .exit))) domain (r .owner) (r .rest)) × ((bs : List Block) (best : Candidate) → length bs ≡ config .blocks → Chosen 0 bs noCandidate best → best .number ≡ n → getD bs n clearBlock ≡ block → OpenedNext config domain rest bs owner (now (store .entry)) (now (words .entry)) (r .rest) (set bs n (r .block)) (r .owner) (now (store .exit)) (now (words .exit))) ⌝ }
 {
     if n < config.blocks {
         return fill_next(config, domain, owner, rest, n, block, store, words);
@@ -204,7 +206,7 @@ fn open_next(
     words: &mut [u64],
 ) -> Filled
     requires { ⌜ MayGoOn config (length (now store)) (length (now words)) domain owner rest × (¬ (rest .count .0 ≡ 0)) × (length (now blocks) ≡ config .blocks) ⌝ }
-    ensures { λ r. ⌜ (r .rest .count .0 < rest .count .0) × (¬ (r .rest .count .0 ≡ 0) → MayGoOn config (length (now (store .exit))) (length (now (words .exit))) domain (r .owner) (r .rest)) × OpenedNext config domain rest (now (blocks .entry)) owner (now (store .entry)) (now (words .entry)) (r .rest) (now (blocks .exit)) (r .owner) (now (store .exit)) (now (words .exit)) ⌝ }
+    ensures { λ r. ⌜ ((best : Candidate) × Chosen 0 (now (blocks .entry)) noCandidate best × (r .rest ≡ restAfterNew config (best .number) rest)) × (¬ (r .rest .count .0 ≡ 0) → MayGoOn config (length (now (store .exit))) (length (now (words .exit))) domain (r .owner) (r .rest)) × OpenedNext config domain rest (now (blocks .entry)) owner (now (store .entry)) (now (words .entry)) (r .rest) (now (blocks .exit)) (r .owner) (now (store .exit)) (now (words .exit)) ⌝ }
 {
     let best = choose_free(blocks, blocks.len());
     let n = best.number;
@@ -226,7 +228,7 @@ pub fn write_onwards(
     words: &mut [u64],
 ) -> Domain
     requires { ⌜ (¬ (rest .count .0 ≡ 0) → MayGoOn config (length (now store)) (length (now words)) domain owner rest) × (length (now blocks) ≡ presentBlocks config) ⌝ }
-    ensures { λ r. ⌜ WrittenOn config domain rest (now (blocks .entry)) owner (now (store .entry)) (now (words .entry)) (now (blocks .exit)) r (now (store .exit)) (now (words .exit)) ⌝ }
+    ensures { λ r. ⌜ WroteOnwards config domain rest (now (blocks .entry)) owner (now (store .entry)) (now (words .entry)) (now (blocks .exit)) r (now (store .exit)) (now (words .exit)) ⌝ }
 {
     let mut new = owner;
     let mut left = rest;

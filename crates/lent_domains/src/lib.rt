@@ -1,19 +1,19 @@
 // What is read and changed in a lent slice of domain records.
 use model::Domain;
-use survey::Covering;
-use survey::domain_passed;
+use scan::Covering;
+use scan::scan_domain;
 use tables::clear_domain;
 ghost use Prim.Native.Nat.{_≤_};
 ghost use mathlib.Core.Path.{_≡_};
 ghost use lib.ListN.{getD, length, set};
 ghost use Rattle.rules.specs.Drive.{clearDomain};
-ghost use Rattle.survey.specs.Marks.{markCount};
-ghost use Rattle.survey.specs.Sight.{DomainsPassed};
+ghost use Rattle.scan.specs.Marks.{markCount};
+ghost use Rattle.scan.specs.Summary.{DomainsScanned};
 
-// The pass over the domains, from the first to the last, with the blocks that the marks have counted for each.
-pub fn pass_domains(domains: &[Domain], blocks: u64, marks: &[u16]) -> Covering
+// The scan of the domains, from the first to the last, with the blocks that the marks have counted for each.
+pub fn scan_domains(domains: &[Domain], blocks: u64, marks: &[u16]) -> Covering
     requires { ⌜ (length (now domains) ≤ 16) × (length (now marks) ≡ markCount) ⌝ }
-    ensures { λ r. ⌜ DomainsPassed (now (domains .entry)) blocks (now (marks .entry)) (length (now (domains .entry))) r ⌝ }
+    ensures { λ r. ⌜ DomainsScanned (now (domains .entry)) blocks (now (marks .entry)) (length (now (domains .entry))) r ⌝ }
 {
     let mut covering = Covering {
         sound: true,
@@ -22,7 +22,7 @@ pub fn pass_domains(domains: &[Domain], blocks: u64, marks: &[u16]) -> Covering
     let mut n = 0;
     while n < domains.len() {
         let domain = domains[n];
-        covering = domain_passed(covering, n, domain, blocks, marks);
+        covering = scan_domain(covering, n, domain, blocks, marks);
         n += 1;
     }
     covering

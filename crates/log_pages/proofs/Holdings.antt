@@ -20,8 +20,8 @@ use Rattle.rules.proofs.Kept.Tested.{facts-of}
 use Rattle.rules.specs.Drive.{blockAt, closedCount, closedOf, heldBy, heldCount, isClosedState, isOpenState, openCount, openOf, size}
 use Rattle.rules.specs.LogPages.{listLength}
 use Rattle.rules.specs.Soundness.{sound}
-use Rattle.survey.specs.Sight.{Sees}
-use Rattle.survey.specs.declared.sight.Sight.{Sight}
+use Rattle.scan.specs.Summary.{Sees}
+use Rattle.scan.specs.declared.summary.Summary.{Summary}
 use Rattle.tables.specs.Serving.{drive}
 
 -- A block that a domain holds is one of the two.
@@ -50,17 +50,17 @@ held-counts t d s l =
     ∙ sum-add (size t) opens closes
 
 -- Of what is seen: as many blocks are open as in the table, and those and the Closed ones are held, ..
-counts-seen : (t : Table) (d : ℕ) (x : Sight) → Sees t d x → x .sound ≡ true → isDomainId d ≡ true
+counts-seen : (t : Table) (d : ℕ) (x : Summary) → Sees t d x → x .sound ≡ true → isDomainId d ≡ true
     → (x .opened ≡ openCount t d) × (x .held ≡ openCount t d + closedCount t d)
 counts-seen t d x s e id =
     (s .opens e id, s .holds e id ∙ held-counts t d (sym (s .tested) ∙ e) (is-between 1 16 d id .least))
 
 -- .. so that no more are open than held, ..
-pub few-open : (t : Table) (d : ℕ) (x : Sight) → Sees t d x → x .sound ≡ true → isDomainId d ≡ true → x .opened ≤ x .held
+pub few-open : (t : Table) (d : ℕ) (x : Summary) → Sees t d x → x .sound ≡ true → isDomainId d ≡ true → x .opened ≤ x .held
 few-open t d x s e id = let h = counts-seen t d x s e id in omega (arith, h .0, h .1)
 
 -- .. and a list is as long as in the table.
-pub length-seen : (t : Table) (d : ℕ) (which : Listed) (x : Sight) → Sees t d x → x .sound ≡ true → isDomainId d ≡ true
+pub length-seen : (t : Table) (d : ℕ) (which : Listed) (x : Summary) → Sees t d x → x .sound ≡ true → isDomainId d ≡ true
     → lengthSeen x which ≡ listLength t d which
 length-seen t d listed.Open x s e id = let h = counts-seen t d x s e id in omega (arith, h .0)
 length-seen t d listed.Closed x s e id = let h = counts-seen t d x s e id in omega (arith, h .0, h .1)

@@ -27,9 +27,9 @@ use Rattle.rules.specs.Counting.{numbersTo}
 use Rattle.rules.specs.Drive.{blockAt, openOf, overwritten, size}
 use Rattle.rules.specs.Effects.{Fills}
 use Rattle.rules.specs.LogPages.{closedList, descriptor, descriptorOf, endMark, listLength, listOf}
-use Rattle.survey.specs.Listing.{byteTold, indexTold, isListed, listMark}
-use Rattle.survey.specs.Sight.{SeesList}
-use Rattle.survey.specs.declared.sight.Sight.{Sight}
+use Rattle.scan.specs.Listing.{byteTold, indexTold, isListed, listMark}
+use Rattle.scan.specs.Summary.{SeesList}
+use Rattle.scan.specs.declared.summary.Summary.{Summary}
 
 -- ---- A list on the way
 
@@ -178,7 +178,7 @@ one-more t mark (m ∷ ns) n =
     (descriptor (t .config) mark n (blockAt t n)))
 
 -- So the descriptors are those that the marks tell, ..
-marked-to : (t : Table) (d : ℕ) (which : Listed) (x : Sight) (marks : List ℕ) → SeesList t d which x marks → x .sound ≡ true
+marked-to : (t : Table) (d : ℕ) (which : Listed) (x : Summary) (marks : List ℕ) → SeesList t d which x marks → x .sound ≡ true
     → (n : ℕ)
     → n ≤ size t
     → markedTo marks n ≡ descriptors t (listMark which) (listedTo t d which n)
@@ -200,7 +200,7 @@ marked-to t d which x marks s e (suc n) l =
     rw (p, eq-eqb (byteTold marks n) 0 none, append-nil (markedTo marks n), append-nil (listedTo t d which n)) before)
 
 -- .. and the bytes are the list's.
-pub marked-listed : (t : Table) (d : ℕ) (which : Listed) (x : Sight) (marks : List ℕ) → SeesList t d which x marks → x .sound ≡ true
+pub marked-listed : (t : Table) (d : ℕ) (which : Listed) (x : Summary) (marks : List ℕ) → SeesList t d which x marks → x .sound ≡ true
     → markedBytes marks (size t) ≡ listedBytes t d which
 unfolding listedBytes
 marked-listed t d which x marks s e = rw (with-end, marked-to t d which x marks s e (size t) (omega arith))

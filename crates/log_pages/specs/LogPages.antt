@@ -9,11 +9,11 @@ use Rattle.model.specs.declared.command.Listed.{Listed}
 use Rattle.model.specs.declared.command.Listed.the-variants.{Closed, Open}
 use Rattle.rules.specs.Drive.{heldBy}
 use Rattle.rules.specs.LogPages.{descriptorOf, endMark}
-use Rattle.survey.specs.Listing.{byteTold, indexTold}
-use Rattle.survey.specs.declared.sight.Sight.{Sight}
+use Rattle.scan.specs.Listing.{byteTold, indexTold}
+use Rattle.scan.specs.declared.summary.Summary.{Summary}
 
 -- What Page is asked, with room for so many bytes.
-abbrev pub pageQuestions : Sight → ℕ → ℕ → ℕ → List Question
+abbrev pub pageQuestions : Summary → ℕ → ℕ → ℕ → List Question
 pageQuestions x d n room =
     ask 6 (isBlock (x .config) n)
     ∷ ask 7 (leb 256 room)
@@ -21,7 +21,7 @@ pageQuestions x d n room =
     ∷ []
 
 -- How many bytes a list fills.
-abbrev pub lengthSeen : Sight → Listed → ℕ
+abbrev pub lengthSeen : Summary → Listed → ℕ
 lengthSeen x Open = 8 * (x .opened + 1)
 lengthSeen x Closed = 8 * (x .held - x .opened + 1)
 

@@ -3,9 +3,9 @@ use buffers::put_field;
 use model::Answer;
 use model::Listed;
 use model::Refusal;
-use survey::Sight;
-use survey::byte_told;
-use survey::index_told;
+use scan::Summary;
+use scan::byte_told;
+use scan::index_told;
 ghost use mathlib.Core.List.{List};
 ghost use mathlib.Core.Path.{_≡_};
 ghost use Prim.Native.Nat.{ℕ, _+_, _≤_};
@@ -15,9 +15,9 @@ ghost use Rattle.model.specs.declared.command.Command.the-variants.{List as Lis
 ghost use Rattle.model.specs.declared.table.Table.{Table};
 ghost use Rattle.rules.specs.Drive.{overwritten};
 ghost use Rattle.rules.specs.LogPages.{descriptorOf};
-ghost use Rattle.survey.specs.First.{Begun};
-ghost use Rattle.survey.specs.Marks.{markCount};
-ghost use Rattle.survey.specs.Sight.{Sees, SeesList};
+ghost use Rattle.scan.specs.First.{FirstPassed};
+ghost use Rattle.scan.specs.Marks.{markCount};
+ghost use Rattle.scan.specs.Summary.{Sees, SeesList};
 ghost use Rattle.tables.specs.Serving.{ServesCommand, answering, served};
 
 // A descriptor, or the end mark.
@@ -49,28 +49,34 @@ fn put_list(bytes: &mut [u8], marks: &[u16], blocks: usize)
 }
 
 // How many bytes a list fills. The blocks that a domain holds are open or Closed.
-fn list_length(sight: Sight, listed: Listed) -> u64
-    requires { ⌜ (sight .opened ≤ sight .held) × (sight .held ≤ 256) ⌝ }
-    ensures { λ r. ⌜ r ≡ lengthSeen sight listed ⌝ }
+fn list_length(summary: Summary, listed: Listed) -> u64
+    requires { ⌜ (summary .opened ≤ summary .held) × (summary .held ≤ 256) ⌝ }
+    ensures { λ r. ⌜ r ≡ lengthSeen summary listed ⌝ }
 {
-    let opened = sight.opened;
+    let opened = summary.opened;
     match listed {
         Listed::Open => 8 * (opened + 1),
-        Listed::Closed => 8 * (sight.held - opened + 1),
+        Listed::Closed => 8 * (summary.held - opened + 1),
     }
 }
 
 // The domain's open or Closed blocks, a descriptor each, and the end mark. Both stand in ascending
 // number.
-pub fn list(sight: Sight, domain: u64, listed: Listed, marks: &[u16], bytes: &mut [u8]) -> Answer
-    requires { ⌜ ((t : Table) × Sees t domain sight × SeesList t domain listed sight (now marks)) ⌝ }
-    requires { ⌜ Begun (Listing domain listed) 0 sight ⌝ }
+pub fn list(
+    summary: Summary,
+    domain: u64,
+    listed: Listed,
+    marks: &[u16],
+    bytes: &mut [u8],
+) -> Answer
+    requires { ⌜ ((t : Table) × Sees t domain summary × SeesList t domain listed summary (now marks)) ⌝ }
+    requires { ⌜ FirstPassed (Listing domain listed) 0 summary ⌝ }
     requires { ⌜ length (now marks) ≡ markCount ⌝ }
-    ensures { λ r. ⌜ ((t : Table) (store words : List ℕ) → Sees t domain sight → SeesList t domain listed sight (now (marks .entry)) → ServesCommand t (Listing domain listed) store words (now (bytes .entry)) (served (answering t r) store words (now (bytes .exit)))) ⌝ }
+    ensures { λ r. ⌜ ((t : Table) (store words : List ℕ) → Sees t domain summary → SeesList t domain listed summary (now (marks .entry)) → ServesCommand t (Listing domain listed) store words (now (bytes .entry)) (served (answering t r) store words (now (bytes .exit)))) ⌝ }
 {
-    if (bytes.len() as u64) < list_length(sight, listed) {
+    if (bytes.len() as u64) < list_length(summary, listed) {
         return Answer::Refused(Refusal::Output);
     }
-    put_list(bytes, marks, sight.config.blocks as usize);
+    put_list(bytes, marks, summary.config.blocks as usize);
     Answer::Done
 }

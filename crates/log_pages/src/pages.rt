@@ -7,7 +7,7 @@ use geometry::adus_per_block;
 use model::Answer;
 use model::Block;
 use model::Refusal;
-use survey::Sight;
+use scan::Summary;
 use tables::Verdict;
 use tables::ask;
 use tables::integrity;
@@ -27,8 +27,8 @@ ghost use Rattle.model.specs.declared.command.Command.the-variants.{Page};
 ghost use Rattle.model.specs.declared.table.Table.{Table};
 ghost use Rattle.rules.specs.Drive.{overwritten};
 ghost use Rattle.rules.specs.LogPages.{page};
-ghost use Rattle.survey.specs.First.{Begun};
-ghost use Rattle.survey.specs.Sight.{Seen, Sees, SeesBlock};
+ghost use Rattle.scan.specs.First.{FirstPassed};
+ghost use Rattle.scan.specs.Summary.{Seen, Sees, SeesBlock};
 ghost use Rattle.tables.specs.Serving.{ServesCommand, answering, served};
 ghost use Rattle.tables.specs.Verdicts.{verdictNumber};
 
@@ -62,24 +62,24 @@ fn put_counts(bytes: &mut [u8], config: Config, block: Block)
 }
 
 // 6, 7 and 9.
-fn page_verdict(sight: Sight, domain: u64, block: u64, room: usize) -> Verdict
-    ensures { λ r. ⌜ verdictNumber r ≡ firstNo (pageQuestions sight domain block room) ⌝ }
+fn page_verdict(summary: Summary, domain: u64, block: u64, room: usize) -> Verdict
+    ensures { λ r. ⌜ verdictNumber r ≡ firstNo (pageQuestions summary domain block room) ⌝ }
 {
-    let b = sight.block;
-    ask(block < sight.config.blocks, Refusal::Range).and(256 <= room, Refusal::Output)
+    let b = summary.block;
+    ask(block < summary.config.blocks, Refusal::Range).and(256 <= room, Refusal::Output)
         .and(is_held(b, domain), Refusal::Holder)
 }
 
 // Super Block Information of a held block, 256 bytes.
-pub fn page(sight: Sight, domain: u64, block: u64, bytes: &mut [u8]) -> Answer
-    requires { ⌜ Seen domain sight × Begun (Page domain block) 0 sight ⌝ }
-    ensures { λ r. ⌜ ((t : Table) (store words : List ℕ) → Sees t domain sight → SeesBlock t block sight → ServesCommand t (Page domain block) store words (now (bytes .entry)) (served (answering t r) store words (now (bytes .exit)))) ⌝ }
+pub fn page(summary: Summary, domain: u64, block: u64, bytes: &mut [u8]) -> Answer
+    requires { ⌜ Seen domain summary × FirstPassed (Page domain block) 0 summary ⌝ }
+    ensures { λ r. ⌜ ((t : Table) (store words : List ℕ) → Sees t domain summary → SeesBlock t block summary → ServesCommand t (Page domain block) store words (now (bytes .entry)) (served (answering t r) store words (now (bytes .exit)))) ⌝ }
 {
-    match page_verdict(sight, domain, block, bytes.len()) {
+    match page_verdict(summary, domain, block, bytes.len()) {
         Verdict::No(reason) => Answer::Refused(reason),
         Verdict::Pass => {
-            let config = sight.config;
-            let b = sight.block;
+            let config = summary.config;
+            let b = summary.block;
             put_identity(bytes, block, b);
             put_counts(bytes, config, b);
             Answer::Done

@@ -1,14 +1,15 @@
--- What each command sees of the table that was viewed for it.
+-- What each command sees of the table that was summarized for it.
 use Prim.Native.Nat.{ℕ, _<_}
 use mathlib.Core.Bool.{Bool, true, false, cond}
-use mathlib.Core.List.{List}
+use mathlib.Core.List.{List, []}
 use mathlib.Core.Path.{_≡_, refl, sym, ap, subst, _∙_}
 use lib.Dec.{eqb}
-use lib.ListN.{length}
+use lib.ListN.{length, length-replicate}
 use Rattle.geometry.specs.Address.{fieldsOf}
 use Rattle.geometry.specs.Shape.{withinLimits}
 use Rattle.geometry.specs.declared.shape.Config.{Config}
-use Rattle.manager.specs.Answering.{Answered, ReadOf, Viewed}
+use Rattle.manager.specs.Answering.{Dispatched, Summarized, SummaryOf}
+use Rattle.manager.specs.Looking.{Looked}
 use Rattle.manager.specs.Subjects.{subjectOf, subjectWith}
 use Rattle.model.specs.declared.answer.Answer.{Answer}
 use Rattle.model.specs.declared.command.Command.{Command}
@@ -20,17 +21,18 @@ use Rattle.model.specs.declared.table.Table.{Table}
 use Rattle.rules.specs.Blocks.{anyBlock}
 use Rattle.rules.specs.Calls.{domainOf, profile}
 use Rattle.rules.specs.Drive.{blockAt, size}
-use Rattle.survey.proofs.Listings.{sees-list}
-use Rattle.survey.proofs.Outcomes.{left-as-is}
-use Rattle.survey.proofs.Seeing.{sound-limits}
+use Rattle.scan.proofs.Listings.{sees-list}
+use Rattle.scan.proofs.Outcomes.{left-as-is}
+use Rattle.scan.proofs.Seeing.{sound-limits}
+use Rattle.scan.proofs.Summaries.{summary-as}
 use Rattle.placements.proofs.Accepted.{complete-finishes, complete-may}
 use Rattle.placements.specs.Onwards.{completeOf}
 use Rattle.placements.specs.declared.rest.Partial.{Partial}
-use Rattle.survey.specs.Marks.{markCount}
-use Rattle.survey.specs.Sight.{ListGathered, Sees, SeesBlock, SeesChoice, SeesList, SeesPlacement, Sighted, SubjectOf, Views}
-use Rattle.survey.specs.declared.scan.Subject.{Subject}
-use Rattle.survey.specs.declared.sight.Sight.{Sight}
-use Rattle.survey.specs.declared.sight.View.{View}
+use Rattle.scan.specs.Listing.{listedFrom}
+use Rattle.scan.specs.Marks.{markCount, noMarks}
+use Rattle.scan.specs.Summary.{Sees, SeesBlock, SeesChoice, SeesList, SeesPlacement, SubjectOf, present}
+use Rattle.scan.specs.declared.scan.Subject.{Subject}
+use Rattle.scan.specs.declared.summary.Summary.{Summary}
 use Rattle.tables.specs.Changing.{leaving, outcomeServed}
 use Rattle.tables.specs.Serving.{ServesCommand, answering, served}
 use Rattle.tables.specs.declared.change.Outcome.{Outcome}
@@ -61,33 +63,40 @@ right-subject t (Pulse seconds) = with-config t 0 false 0 false false listed.Ope
 
 -- ---- What is seen
 
--- Of a table, with a subject that is right for it.
-pub record Sights (t : Table) (s : Subject) (marks : List ℕ) (r : Sight) : Type 0 where
+-- A table that was looked at so is summarized so.
+pub looked-summary : (t : Table) (k : Command) (x : Summary) (marks : List ℕ) → length (t .blocks) ≡ 256 → length marks ≡ markCount
+    → Looked (t .config) (subjectOf (t .config) k) (present t) (t .domains) noMarks x marks → SummaryOf t (subjectOf (t .config) k) x marks
+looked-summary t k x marks all each looked =
+    let s = subjectOf (t .config) k in
+    let a = right-subject t k in
+    let sums = summary-as {t = t} all (looked .gathered) in
+    record {
+      summarizes = sums;
+      entries = each;
+      lists = λ e. sees-list t s x marks a (sums .sees a) all (
+        looked .marks,
+        looked .entries ∙ length-replicate {A = ℕ} markCount 0,
+        looked .listed ∙ ap (λ (listing : Bool). listedFrom s 0 (cond listing (present t) []) (looked .marks)) e,
+      );
+    }
+
+-- What is seen of a table, with a subject that is right for it.
+pub record SeenFor (t : Table) (s : Subject) (marks : List ℕ) (r : Summary) : Type 0 where
   pub sees : Sees t (s .domain) r
   pub names : s .placing ≡ false → s .choosing ≡ false → SeesBlock t (s .number) r
   pub places : s .placing ≡ true → SeesPlacement t (s .domain) (s .number) r
   pub chooses : s .placing ≡ false → s .choosing ≡ true → SeesChoice t r
   pub lists : s .listing ≡ true → SeesList t (s .domain) (s .listed) r marks
 
--- Of every table that is viewed so.
-abbrev pub Sighting : View → Command → List ℕ → Sight → Type 0
-Sighting v k marks r = (t : Table) → ReadOf t v marks → Sights t (subjectOf (t .config) k) marks r
-
-pub sighting : (v : View) (command k : Command) (marks : List ℕ) (r : Sight) → Viewed v command marks → command ≡ k
-    → ((t : Table) → Views t v → Sighted t (v .subject) r) → Sighting v k marks r
-unfolding Viewed
-sighting v command k marks r is told made t p =
-    let same : v .subject ≡ subjectOf (t .config) k = is .0 ∙ ap (λ (z : Config). subjectOf z command) (p .views .same-config) ∙ ap (subjectOf (t .config)) told in
-    let q = subst (λ (z : Subject). Sighted t z r) same (made t (p .views)) in
-    let list : subjectOf (t .config) k .listing ≡ true → ListGathered t (subjectOf (t .config) k) marks =
-    subst (λ (z : Subject). z .listing ≡ true → ListGathered t z marks) same (p .listed) in
+pub seen-for : (t : Table) (k : Command) (marks : List ℕ) (r : Summary) → SummaryOf t (subjectOf (t .config) k) r marks → SeenFor t (subjectOf (t .config) k) marks r
+seen-for t k marks r p =
     let a = right-subject t k in
     record {
-      sees = q .sees a;
-      names = q .names a;
-      places = q .places a;
-      chooses = q .chooses a;
-      lists = λ e. sees-list t (subjectOf (t .config) k) r marks a (q .sees a) (p .views .scanned .records) (list e);
+      sees = p .summarizes .sees a;
+      names = p .summarizes .names a;
+      places = p .summarizes .places a;
+      chooses = p .summarizes .chooses a;
+      lists = p .lists;
     }
 
 -- The subject's domain is the one that the command names.
@@ -106,21 +115,20 @@ own-subject c (Page d n) = refl
 own-subject c (Listing d which) = refl
 own-subject c (Pulse seconds) = refl
 
-pub sees-own : (t : Table) (k : Command) (marks : List ℕ) (r : Sight) → Sights t (subjectOf (t .config) k) marks r → Sees t (domainOf (profile k .own)) r
+pub sees-own : (t : Table) (k : Command) (marks : List ℕ) (r : Summary) → SeenFor t (subjectOf (t .config) k) marks r → Sees t (domainOf (profile k .own)) r
 sees-own t k marks r s = subst (λ (d : ℕ). Sees t d r) (own-subject (t .config) k) (s .sees)
 
 -- There is such a table.
-pub seen : (v : View) (command k : Command) (marks : List ℕ) (r : Sight) → Viewed v command marks → Sighting v k marks r
-    → (t : Table) × Sights t (subjectOf (t .config) k) marks r
-unfolding Viewed
-seen v command k marks r is g = let t = is .1 .0 in (t, g t (is .1 .1))
+pub some-seen : (k : Command) (marks : List ℕ) (r : Summary) → Summarized r k marks → (t : Table) × SeenFor t (subjectOf (t .config) k) marks r
+unfolding Summarized
+some-seen k marks r is = (is .0, seen-for (is .0) k marks r (is .1))
 
-pub marks-long : (v : View) (command : Command) (marks : List ℕ) → Viewed v command marks → length marks ≡ markCount
-unfolding Viewed
-marks-long v command marks is = is .1 .1 .entries
+pub marks-long : (r : Summary) (command : Command) (marks : List ℕ) → Summarized r command marks → length marks ≡ markCount
+unfolding Summarized
+marks-long r command marks is = is .1 .entries
 
 -- A Read names the block of its address, which is in the limits of a sound table.
-pub sees-read : (t : Table) (d address : ℕ) (r : Sight) → Sees t d r → SeesBlock t (cond (withinLimits (t .config)) (fieldsOf (t .config) address .block) 0) r
+pub sees-read : (t : Table) (d address : ℕ) (r : Summary) → Sees t d r → SeesBlock t (cond (withinLimits (t .config)) (fieldsOf (t .config) address .block) 0) r
     → SeesBlock t (fieldsOf (t .config) address .block) r
 sees-read t d address r s b = record {
   same-block = λ y l.
@@ -138,23 +146,12 @@ left t k answer o store words bytes store′ words′ bytes′ is s =
     (sym (ap (outcomeServed t) is ∙ left-as-is t answer)) s
 
 -- A command whose outcome leaves nothing to write.
-pub complete-answer : (v : View) (k : Command) (marks store words bytes : List ℕ) (o : Outcome) (r : Partial) (store′ words′ bytes′ : List ℕ) → r ≡ completeOf o
-    → ((t : Table) → ReadOf t v marks → ServesCommand t k store words bytes (served (outcomeServed t o) store′ words′ bytes′))
-    → Answered v k marks store words bytes r store′ words′ bytes′
-unfolding Answered
-complete-answer v k marks store words bytes o r store′ words′ bytes′ is serves =
+pub complete-answer : (x : Summary) (k : Command) (marks store words bytes : List ℕ) (o : Outcome) (r : Partial) (store′ words′ bytes′ : List ℕ) → r ≡ completeOf o
+    → ((t : Table) → SummaryOf t (subjectOf (t .config) k) x marks → ServesCommand t k store words bytes (served (outcomeServed t o) store′ words′ bytes′))
+    → Dispatched x k marks store words bytes r store′ words′ bytes′
+unfolding Dispatched
+complete-answer x k marks store words bytes o r store′ words′ bytes′ is serves =
     rw is (
-      complete-may (v .config) (length store′) (length words′) o,
+      complete-may (x .config) (length store′) (length words′) o,
       λ t p. complete-finishes t k store words bytes o store′ words′ bytes′ (serves t p),
     )
-
--- The configuration that is seen is the one that was read.
-pub view-config : (v : View) (command : Command) (marks : List ℕ) (r : Sight) → Viewed v command marks
-    → ((t : Table) → Views t v → Sighted t (v .subject) r) → v .config ≡ r .config
-unfolding Viewed
-view-config v command marks r is made =
-    let t = is .1 .0 in
-    let p = is .1 .1 in
-    let same : v .subject ≡ subjectOf (t .config) command = is .0 ∙ ap (λ (z : Config). subjectOf z command) (p .views .same-config) in
-    let q = subst (λ (z : Subject). Sighted t z r) same (made t (p .views)) in
-    p .views .same-config ∙ sym (q .sees (right-subject t command) .same-config)

@@ -5,16 +5,13 @@ use lib.Dec.{eqb}
 use Rattle.geometry.specs.Address.{fieldsOf}
 use Rattle.geometry.specs.Shape.{adus, adusPerBlock, withinLimits}
 use Rattle.geometry.specs.declared.shape.Config.{Config}
-use Rattle.manager.specs.declared.subjects.Beginning.{Beginning}
 use Rattle.model.specs.declared.command.Command.{Command}
 use Rattle.model.specs.declared.command.Command.the-variants.{ChangeCapacity, Close, Create, Delete, Erase, Free, List as Listing, Page, Pulse, Read}
 use Rattle.model.specs.declared.command.Command.the-variants.{WriteByBlock, WriteByPlacement}
 use Rattle.model.specs.declared.command.Listed.{Listed}
 use Rattle.model.specs.declared.command.Listed.the-variants as listed
 use Rattle.rules.specs.Blocks.{anyBlock}
-use Rattle.survey.specs.declared.scan.Ranges.{Ranges}
-use Rattle.survey.specs.declared.scan.Subject.{Subject}
-use Rattle.tables.specs.Changing.{presentBlocks}
+use Rattle.scan.specs.declared.scan.Subject.{Subject}
 
 abbrev pub subjectWith : Config → ℕ → Bool → ℕ → Bool → Bool → Listed → Subject
 subjectWith c d placing number choosing lists which = record {
@@ -36,8 +33,8 @@ plain c d = subjectWith c d false 0 false false listed.Open
 abbrev pub named : Config → ℕ → ℕ → Bool → Subject
 named c d n choosing = subjectWith c d false n choosing false listed.Open
 
-abbrev pub placed : Config → ℕ → ℕ → Subject
-placed c d p = subjectWith c d true p false false listed.Open
+abbrev pub byPlacement : Config → ℕ → ℕ → Subject
+byPlacement c d p = subjectWith c d true p false false listed.Open
 
 abbrev pub listing : Config → ℕ → Listed → Subject
 listing c d which = subjectWith c d false 0 false true which
@@ -49,21 +46,9 @@ subjectOf c (Delete d) = plain c d
 subjectOf c (Erase d n) = named c d n (eqb n anyBlock)
 subjectOf c (Close d n) = named c d n false
 subjectOf c (Free d n) = named c d n false
-subjectOf c (WriteByPlacement d p start count) = placed c d p
+subjectOf c (WriteByPlacement d p start count) = byPlacement c d p
 subjectOf c (WriteByBlock d n start count) = named c d n false
 subjectOf c (Read d address count expected) = named c d (cond (withinLimits c) (fieldsOf c address .block) 0) false
 subjectOf c (Page d n) = named c d n false
 subjectOf c (Listing d which) = listing c d which
 subjectOf c (Pulse seconds) = plain c 0
-
--- How many of so many blocks are looked through for it.
-abbrev pub rangesOf : Subject → ℕ → Ranges
-rangesOf s blocks = record { free = cond (s .choosing) blocks 0; list = cond (s .listing) blocks 0 }
-
--- What a command begins with.
-abbrev pub beginningOf : Config → Command → Beginning
-beginningOf c command = record {
-  blocks = presentBlocks c;
-  subject = subjectOf c command;
-  ranges = rangesOf (subjectOf c command) (presentBlocks c);
-}

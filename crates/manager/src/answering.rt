@@ -12,9 +12,8 @@ use model::Command;
 use placements::Partial;
 use placements::complete;
 use placements::write_by_placement;
-use survey::View;
-use survey::first_verdict;
-use survey::sighted;
+use scan::Summary;
+use scan::first_verdict;
 use tables::Change;
 use tables::Verdict;
 use tables::refusal;
@@ -22,24 +21,23 @@ use tables::unchanged;
 use transfers::read;
 use transfers::write_by_block;
 ghost use mathlib.Core.Path.{_≡_};
-ghost use Rattle.manager.specs.Answering.{Answered, Viewed, changedPlace};
+ghost use Rattle.manager.specs.Answering.{Dispatched, Summarized, changedPlace};
 
-// The command's answer, what it changes and what it has left to write, from what was read of the table. The store, the
+// The command's answer, what it changes and what it has left to write, from what is seen of the table. The store, the
 // words and the bytes are then as after it, but for what is left. What every command is asked first is asked here, the
 // other questions by the command's own function.
-pub(crate) fn answered(
-    view: View,
+pub(crate) fn dispatch(
+    summary: Summary,
     marks: &[u16],
     command: Command,
     store: &mut [u64],
     words: &mut [u64],
     bytes: &mut [u8],
 ) -> Partial
-    requires { ⌜ Viewed view command (now marks) ⌝ }
-    ensures { λ r. ⌜ Answered view command (now (marks .entry)) (now (store .entry)) (now (words .entry)) (now (bytes .entry)) r (now (store .exit)) (now (words .exit)) (now (bytes .exit)) ⌝ }
+    requires { ⌜ Summarized summary command (now marks) ⌝ }
+    ensures { λ r. ⌜ Dispatched summary command (now (marks .entry)) (now (store .entry)) (now (words .entry)) (now (bytes .entry)) r (now (store .exit)) (now (words .exit)) (now (bytes .exit)) ⌝ }
 {
-    let sight = sighted(view);
-    match first_verdict(sight, command, store.len()) {
+    match first_verdict(summary, command, store.len()) {
         Verdict::No(reason) => complete(refusal(reason)),
         Verdict::Pass => match command {
             Command::Create {
@@ -48,44 +46,44 @@ pub(crate) fn answered(
                 quota,
                 placements,
                 limit,
-            } => { complete(create(sight, domain, guarantee, quota, placements, limit)) }
+            } => { complete(create(summary, domain, guarantee, quota, placements, limit)) }
             Command::ChangeCapacity {
                 domain,
                 guarantee,
                 quota,
-            } => { complete(change_capacity(sight, domain, guarantee, quota)) }
+            } => { complete(change_capacity(summary, domain, guarantee, quota)) }
             Command::Delete { domain } => complete(delete(domain)),
-            Command::Erase { domain, block } => complete(erase(sight, domain, block, store)),
-            Command::Close { domain, block } => complete(close(sight, domain, block)),
-            Command::Free { domain, block } => complete(free(sight, domain, block)),
+            Command::Erase { domain, block } => complete(erase(summary, domain, block, store)),
+            Command::Close { domain, block } => complete(close(summary, domain, block)),
+            Command::Free { domain, block } => complete(free(summary, domain, block)),
             Command::WriteByPlacement {
                 domain,
                 placement,
                 start,
                 count,
-            } => { write_by_placement(sight, domain, placement, start, count, store, words) }
+            } => { write_by_placement(summary, domain, placement, start, count, store, words) }
             Command::WriteByBlock {
                 domain,
                 block,
                 start,
                 count,
-            } => { complete(write_by_block(sight, domain, block, start, count, store, words)) }
+            } => { complete(write_by_block(summary, domain, block, start, count, store, words)) }
             Command::Read {
                 domain,
                 address,
                 count,
                 expected,
             } => {
-                complete(unchanged(read(sight, domain, address, count, expected, store, words)))
+                complete(unchanged(read(summary, domain, address, count, expected, store, words)))
             }
             Command::Page { domain, block } => complete(unchanged(page(
-                sight,
+                summary,
                 domain,
                 block,
                 bytes,
             ))),
             Command::List { domain, listed } => {
-                complete(unchanged(list(sight, domain, listed, marks, bytes)))
+                complete(unchanged(list(summary, domain, listed, marks, bytes)))
             }
             Command::Pulse { seconds } => complete(pulse(seconds)),
         },

@@ -1,19 +1,13 @@
 // What each command is about.
+use blocks::ANY_BLOCK;
 use geometry::Config;
 use geometry::adus_per_block;
-use geometry::within_limits;
 use geometry::word_fields;
 use model::Command;
 use model::Listed;
-use survey::Ranges;
-use survey::Subject;
-ghost use Prim.Native.Nat.{_≤_};
-ghost use mathlib.Core.Bool.{cond};
+use scan::Subject;
 ghost use mathlib.Core.Path.{_≡_};
-ghost use Rattle.manager.specs.Subjects.{beginningOf, listing, named, placed, plain, rangesOf, subjectOf};
-
-// Erase leaves the choice to the manager.
-const ANY_BLOCK: u64 = 0xffff_ffff;
+ghost use Rattle.manager.specs.Subjects.{byPlacement, listing, named, plain, subjectOf};
 
 // A domain alone, ..
 fn plain(config: Config, domain: u64) -> Subject
@@ -44,8 +38,8 @@ fn named(config: Config, domain: u64, number: u64, choosing: bool) -> Subject
 }
 
 // .. or a placement, ..
-fn placed(config: Config, domain: u64, placement: u64) -> Subject
-    ensures { λ r. ⌜ r ≡ placed config domain placement ⌝ }
+fn by_placement(config: Config, domain: u64, placement: u64) -> Subject
+    ensures { λ r. ⌜ r ≡ byPlacement config domain placement ⌝ }
 {
     let mut subject = named(config, domain, placement, false);
     subject.placing = true;
@@ -95,7 +89,7 @@ pub(crate) fn subject_of(config: Config, command: Command) -> Subject
             placement,
             start: _,
             count: _,
-        } => placed(config, domain, placement),
+        } => by_placement(config, domain, placement),
         Command::WriteByBlock {
             domain,
             block,
@@ -111,44 +105,5 @@ pub(crate) fn subject_of(config: Config, command: Command) -> Subject
         Command::Page { domain, block } => named(config, domain, block, false),
         Command::List { domain, listed } => listing(config, domain, listed),
         Command::Pulse { seconds: _ } => plain(config, 0),
-    }
-}
-
-// What a command begins with: how many blocks the drive has, none outside the limits; what the command is about; and
-// how many blocks are looked through for it.
-pub(crate) struct Beginning {
-    pub blocks: usize,
-    pub subject: Subject,
-    pub ranges: Ranges,
-}
-
-// So many, or none.
-fn if_wanted(wanted: bool, blocks: usize) -> usize
-    ensures { λ r. ⌜ r ≡ cond wanted blocks 0 ⌝ }
-{
-    if wanted { blocks } else { 0 }
-}
-
-fn ranges_of(subject: Subject, blocks: usize) -> Ranges
-    ensures { λ r. ⌜ r ≡ rangesOf subject blocks ⌝ }
-{
-    Ranges {
-        free: if_wanted(subject.choosing, blocks),
-        list: if_wanted(subject.listing, blocks),
-    }
-}
-
-pub(crate) fn begun(config: Config, command: Command) -> Beginning
-    ensures { λ r. ⌜ (r ≡ beginningOf config command) × (r .blocks ≤ 256) ⌝ }
-{
-    let mut blocks = 0;
-    if within_limits(config) {
-        blocks = config.blocks as usize;
-    }
-    let subject = subject_of(config, command);
-    Beginning {
-        blocks,
-        subject,
-        ranges: ranges_of(subject, blocks),
     }
 }

@@ -35,14 +35,14 @@ use Rattle.rules.specs.Calls.{calling}
 use Rattle.rules.specs.Drive.{Drive, blockAt, domainAt, isPlacedState, openBlock, size}
 use Rattle.rules.specs.Effects.{effect}
 use Rattle.rules.specs.Questions.{isCount, laterQuestions, userAddressesFit}
-use Rattle.survey.proofs.Outcomes.{begun-yes}
-use Rattle.survey.proofs.Seeing.{limits-seen}
-use Rattle.survey.specs.First.{Begins}
-use Rattle.survey.specs.Sight.{Sees, SeesPlacement, foundIn}
-use Rattle.survey.specs.declared.sight.Found.the-variants as found
-use Rattle.survey.specs.declared.sight.Sight.{Sight}
+use Rattle.scan.proofs.Outcomes.{begun-yes}
+use Rattle.scan.proofs.Seeing.{limits-seen}
+use Rattle.scan.specs.First.{Begins}
+use Rattle.scan.specs.Summary.{Sees, SeesPlacement, foundIn}
+use Rattle.scan.specs.declared.summary.Found.the-variants as found
+use Rattle.scan.specs.declared.summary.Summary.{Summary}
 use Rattle.tables.proofs.Answering.{accepted-call, then-verdict}
-use Rattle.tables.specs.Changing.{changedBy, outcomeServed}
+use Rattle.tables.specs.Changing.{changedTable, outcomeServed}
 use Rattle.tables.specs.Serving.{ServesCommand, answering, drive, served}
 use Rattle.tables.specs.declared.change.Outcome.{Outcome}
 use Rattle.transfers.specs.Transfers.{Wrote}
@@ -60,43 +60,44 @@ is-open-to t d p n e = subst (OpenTo (drive t []) d p (size t)) e (open-to (driv
 
 -- ---- The write
 
--- Its user addresses can be told, and there is room for its words.
-pub place-fits : (t : Table) (room d p start : ℕ) (count : Adus) (x : Sight)
-    → firstNo (placementArguments x room p count ++ placementState t x d start count) ≡ 0
-    → (userAddressesFit start (count .0) ≡ true) × (count .0 ≤ room)
+-- Its user addresses can be told, and there are words enough.
+pub place-fits : (t : Table) (words d p start : ℕ) (count : Adus) (x : Summary)
+    → firstNo (placementArguments x words p count ++ placementState t x d start count) ≡ 0
+    → (userAddressesFit start (count .0) ≡ true) × (count .0 ≤ words)
 unfolding positive placementArguments placementState
-place-fits t room d p start count x pass =
-    let qs = placementArguments x room p count ++ placementState t x d start count in
-    (yes-in 8 qs refl pass, leb-true (count .0) room (yes-in 7 qs refl pass))
+place-fits t words d p start count x pass =
+    let qs = placementArguments x words p count ++ placementState t x d start count in
+    (yes-in 8 qs refl pass, leb-true (count .0) words (yes-in 7 qs refl pass))
 
 -- The placement is one of at most 16.
-pub few-placements : (t : Table) (entries room d p start : ℕ) (count : Adus) (x : Sight) → Sees t d x
+pub few-placements : (t : Table) (entries words d p start : ℕ) (count : Adus) (x : Summary) → Sees t d x
     → Begins t (WriteByPlacement d p start count) entries
-    → firstNo (placementArguments x room p count ++ placementState t x d start count) ≡ 0 → p < 16
+    → firstNo (placementArguments x words p count ++ placementState t x d start count) ≡ 0 → p < 16
 unfolding positive placementArguments placementState
-few-placements t entries room d p start count x s first pass =
+few-placements t entries words d p start count x s first pass =
     let k = WriteByPlacement d p start count in
-    let qs = placementArguments x room p count ++ placementState t x d start count in
+    let qs = placementArguments x words p count ++ placementState t x d start count in
     let between = is-between 1 16 d (begun-yes 4 t k entries first) in
     let few = facts-of (drive t []) (begun-yes 2 t k entries first) .domains d (between .least) (between .most) .existing (begun-yes 5 t k entries first) .few-placements in
     let same = ap (λ (r : Domain). r .placements) (s .same-domain) in
     omega (arith, ltb-true p (x .domain .placements) (both (ltb p (x .domain .placements)) (isCount count) (yes-in 6 qs refl pass) .0), same, few)
 
 -- A write whose questions are answered yes may be done, ..
-pub may-place : (t : Table) (entries room d p start : ℕ) (count : Adus) (x : Sight) → Sees t d x → SeesPlacement t d p x
-    → Begins t (WriteByPlacement d p start count) entries → firstNo (placementArguments x room p count ++ placementState t x d start count) ≡ 0
+pub may-place : (t : Table) (entries words d p start : ℕ) (count : Adus) (x : Summary) → Sees t d x → SeesPlacement t d p x
+    → Begins t (WriteByPlacement d p start count) entries → firstNo (placementArguments x words p count ++ placementState t x d start count) ≡ 0
     → MayPlace x entries d (count .0)
 unfolding positive placementArguments placementState
-may-place t entries room d p start count x s q first pass =
+may-place t entries words d p start count x s q first pass =
     let k = WriteByPlacement d p start count in
     let whole = begun-yes 2 t k entries first in
     let e : x .sound ≡ true = s .tested ∙ whole in
-    let qs = placementArguments x room p count ++ placementState t x d start count in
+    let qs = placementArguments x words p count ++ placementState t x d start count in
     let new = blocksIn (x .config) (count .0 - roomSeen x) in
     let counted = is-between 1 256 (count .0) (both (ltb p (x .domain .placements)) (isCount count) (yes-in 6 qs refl pass) .1) in
     let opened : (n : ℕ) → x .found ≡ found.Block n → openBlock t d p ≡ some n = λ n f. sym (q .same-found e) ∙ ap foundIn f in
     let last : x .domain .last ≡ domainAt t d .last = ap (λ (r : Domain). r .last) (s .same-domain) in
     record {
+      whole = e;
       within = limits-seen t d x s e;
       id = begun-yes 4 t k entries first;
       all-entries = rw (s .same-config) (eqb-true entries (storeLength (t .config) .0) (begun-yes 3 t k entries first));
@@ -112,13 +113,8 @@ may-place t entries room d p start count x s q first pass =
     }
 
 -- .. goes where the rules put it, ..
-pub places : (t : Table) (d p : ℕ) (x : Sight) → Sees t d x → SeesPlacement t d p x → x .sound ≡ true → Places t d p x
-places t d p x s q e = record {
-  same-config = sym (s .same-config);
-  same-owner = sym (s .same-domain);
-  is-open = q .same-found e;
-  seen = record { open-record = λ n is. sym (q .found-block e n (sym (q .same-found e) ∙ is)) };
-}
+pub places : (t : Table) (d p : ℕ) (x : Summary) → Sees t d x → SeesPlacement t d p x → Places t d p x
+places t d p x s q = record { same-config = sym (s .same-config); same-owner = sym (s .same-domain); seen = q }
 
 -- .. and this is what it hands back.
 pub place-done : (t : Table) (store words bytes : List ℕ) (d p start : ℕ) (count : Adus) (u : Table) (left filled : List ℕ)
@@ -136,15 +132,15 @@ place-done t store words bytes d p start count u left filled first pass wrote =
 
 -- ---- An outcome that leaves nothing to write
 
-pub complete-may : (c : Config) (entries room : ℕ) (o : Outcome) → MayFinish c entries room (completeOf o)
-complete-may c entries room o ne = absurd (ne refl)
+pub complete-may : (c : Config) (entries words : ℕ) (o : Outcome) → MayFinish c entries words (completeOf o)
+complete-may c entries words o = (λ _. refl, λ ne. absurd (ne refl))
 
 -- A command that is served by it is served.
 pub complete-finishes : (t : Table) (command : Command) (store words bytes : List ℕ) (o : Outcome) (store′ words′ bytes′ : List ℕ)
     → ServesCommand t command store words bytes (served (outcomeServed t o) store′ words′ bytes′)
     → Finishes t command store words bytes (completeOf o) store′ words′ bytes′
 complete-finishes t command store words bytes o store′ words′ bytes′ s u left filled went =
-    let same-table : u ≡ changedBy (o .change) t = ap (λ (v : Drive). v .table) (went .leaves) in
+    let same-table : u ≡ changedTable (o .change) t = ap (λ (v : Drive). v .table) (went .leaves) in
     let same-store : left ≡ store′ = ap (λ (v : Drive). v .store) (went .leaves) in
     let same-words : filled ≡ words′ = went .fills ∙ overwritten-nothing words′ in
     rw (same-table, same-store, same-words) s

@@ -22,13 +22,13 @@ use Rattle.rules.specs.Blocks.{newBlocks, roomIn}
 use Rattle.rules.specs.Calls.{lending}
 use Rattle.rules.specs.Drive.{openBlock, openCount}
 use Rattle.rules.specs.Questions.{laterQuestions, mayOpenFor}
-use Rattle.survey.specs.Sight.{Sees, SeesPlacement, foundIn}
-use Rattle.survey.specs.declared.sight.Found.{Found}
-use Rattle.survey.specs.declared.sight.Found.the-variants as found
-use Rattle.survey.specs.declared.sight.Sight.{Sight}
+use Rattle.scan.specs.Summary.{Sees, SeesPlacement, foundIn}
+use Rattle.scan.specs.declared.summary.Found.{Found}
+use Rattle.scan.specs.declared.summary.Found.the-variants as found
+use Rattle.scan.specs.declared.summary.Summary.{Summary}
 use Rattle.tables.specs.Serving.{drive}
 
-module _ (t : Table) (d p : ℕ) (x : Sight) (s : Sees t d x) (q : SeesPlacement t d p x) (e : x .sound ≡ true) where
+module _ (t : Table) (d p : ℕ) (x : Summary) (s : Sees t d x) (q : SeesPlacement t d p x) (e : x .sound ≡ true) where
   -- The room of the open block is the rules', ..
   room-seen : (o : Found) → x .found ≡ o → roomSeen x ≡ roomIn t (openBlock t d p)
   room-seen found.Nothing f =
@@ -58,9 +58,9 @@ module _ (t : Table) (d p : ℕ) (x : Sight) (s : Sees t d x) (q : SeesPlacement
       ap (λ (o : Found). mayOpenOf o (x .opened) (x .domain)) f
       ∙ sym (ap (λ o. mayOpenFor o t d) (sym (q .same-found e) ∙ ap foundIn f))
 
-  pub placement-asked : isDomainId d ≡ true → (store : List ℕ) (entries room bytes start : ℕ) (count : Adus)
-      → firstNo (placementArguments x room p count ++ placementState t x d start count)
-      ≡ firstNo (laterQuestions (WriteByPlacement d p start count) (drive t store) (lending (WriteByPlacement d p start count) entries room bytes))
+  pub placement-asked : isDomainId d ≡ true → (store : List ℕ) (entries words bytes start : ℕ) (count : Adus)
+      → firstNo (placementArguments x words p count ++ placementState t x d start count)
+      ≡ firstNo (laterQuestions (WriteByPlacement d p start count) (drive t store) (lending (WriteByPlacement d p start count) entries words bytes))
   unfolding firstNo placementArguments placementState
-  placement-asked id store entries room bytes start count =
+  placement-asked id store entries words bytes start count =
       rw (new-seen (count .0), may-open-seen id (x .found) refl, s .same-domain)

@@ -11,9 +11,9 @@ use Rattle.model.specs.declared.block.Block.{Block}
 use Rattle.model.specs.declared.block.Way.the-variants.{Placement}
 use Rattle.model.specs.declared.table.Domain.{Domain}
 use Rattle.model.specs.declared.table.Table.{Table}
-use Rattle.placements.proofs.Stepping.{goes-on, intoNext, restAfter}
+use Rattle.placements.proofs.Stepping.{goes-on, intoNext}
 use Rattle.placements.proofs.Words.{behind, behind-filled, rejoined}
-use Rattle.placements.specs.Onwards.{GoesOn}
+use Rattle.placements.specs.Onwards.{GoesOn, restAfter}
 use Rattle.placements.specs.declared.rest.Rest.{Rest}
 use Rattle.rules.proofs.Counting.{length-row}
 use Rattle.rules.proofs.Effects.{written-length}
@@ -37,8 +37,9 @@ pub filled-next : (d n : ℕ) (r : Rest) (t : Table) (opened written : Block) (o
     → let put = min (r .count .0) (adusPerBlock (t .config) .0) in
     ((u : Table) → u .config ≡ t .config → blockAt u n ≡ opened
     → Wrote (writtenInto d n (userAddresses (r .start) put) (drive u middle)) (behind (r .done) words) (drive (withBlock n written u) last) part)
-    → GoesOn d r (drive t store) words (restAfter r put) (drive (withDomain d owner (withBlock n written t)) last) (rejoined (r .done) words part)
-filled-next d n r t opened written owner store middle last words part inside is ne has-adus fit room opens writes =
+    → GoesOn d r (drive t store) words (restAfter r (adusPerBlock (t .config) .0)) (drive (withDomain d owner (withBlock n written t)) last) (rejoined (r .done) words part)
+filled-next d n r t opened written owner store middle last words part inside is ne has-adus fit inside-words opens writes =
+    let left = restAfter r (adusPerBlock (t .config) .0) in
     let put = min (r .count .0) (adusPerBlock (t .config) .0) in
     let users = userAddresses (r .start) put in
     let v = drive t store in
@@ -53,6 +54,6 @@ filled-next d n r t opened written owner store middle last words part inside is 
     let words-are : rejoined (r .done) words part ≡ overwritten (r .done) (first .addresses) words =
     behind-filled (r .done) (writtenInto d n users (drive u middle) .addresses) words part (w .fills)
     ∙ ap (λ (x : Written). overwritten (r .done) (x .addresses) words) is-first in
-    subst (λ (x : Drive). GoesOn d r v words (restAfter r put) x (rejoined (r .done) words part)) (sym table)
-    (subst (λ (x : List ℕ). GoesOn d r v words (restAfter r put) (first .drive) x) (sym words-are)
-    (goes-on d n r v words has-adus fit room is ne long))
+    subst (λ (x : Drive). GoesOn d r v words left x (rejoined (r .done) words part)) (sym table)
+    (subst (λ (x : List ℕ). GoesOn d r v words left (first .drive) x) (sym words-are)
+    (goes-on d n r v words has-adus fit inside-words is ne long))

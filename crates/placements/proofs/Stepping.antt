@@ -7,22 +7,25 @@ use mathlib.Core.Path.{_≡_, refl, sym, ap, _∙_}
 use native.Mathlib.Nat.{add-div-right, div-eq-of-lt}
 use native.Mathlib.Numerals.{add-one}
 use native.Mathlib.Omega.{arith}
-use lib.Dec.{eqb, leb}
+use lib.Dec.{eqb, leb, ltb}
 use lib.ListN.{drop, length, take}
 use borrow.Author.Tests.{eq-eqb, leb-false, leb-true, ne-eqb}
 use Rattle.geometry.proofs.Laws.Shape.{by-test, limits}
-use Rattle.geometry.specs.Shape.{adus, adusPerBlock, withinLimits}
+use Rattle.geometry.specs.Address.{isDomainId}
+use Rattle.geometry.specs.Shape.{adusPerBlock, storeLength, withinLimits}
 use Rattle.geometry.specs.declared.shape.Config.{Config}
 use Rattle.model.specs.declared.block.Way.the-variants.{Placement}
+use Rattle.model.specs.declared.table.Domain.{Domain}
 use Rattle.model.specs.declared.table.Table.{Table}
 use Rattle.rules.proofs.Counting.{by-eq, length-row}
 use Rattle.rules.proofs.Writes.{none-written, onwards-zero}
 use Rattle.rules.specs.Blocks.{Written, chosenBlock, newBlocks, openedFor, roomIn, userAddress, userAddresses, writtenByPlacement, writtenFirst, writtenInto, writtenOnwards}
+use Rattle.rules.specs.Counting.{allTo}
 use Rattle.rules.specs.Drive.{Drive, openBlock, overwritten}
 use Rattle.rules.specs.Questions.{userAddressesFit}
-use Rattle.placements.proofs.Users.{users-left, users-taken}
-use Rattle.placements.proofs.Words.{overwritten-two}
-use Rattle.placements.specs.Onwards.{GoesOn, blocksIn, nothingWritten, onwards, restWritten}
+use Rattle.placements.proofs.Users.{later-fit, users-left, users-taken}
+use Rattle.placements.proofs.Words.{overwritten-none, overwritten-two}
+use Rattle.placements.specs.Onwards.{GoesOn, MayGoOn, WentOn, blocksIn, nothingLeft, nothingWritten, onwards, restAfter, restAfterNew, restFrom, restWritten}
 use Rattle.placements.specs.declared.rest.Rest.{Rest}
 
 -- ---- The blocks that so many ADUs fill or begin
@@ -58,8 +61,10 @@ blocks-more c count l k = one-more (adusPerBlock c .0) count l k
 
 -- A serial more leaves enough for what is left.
 pub more-serials : (c : Config) → withinLimits c ≡ true → (last count new : ℕ) → ¬ (count ≡ 0) → new ≡ last + 1
-    → new + blocksIn c (count - min count (adusPerBlock c .0)) ≤ last + blocksIn c count
-more-serials c e last count new ne is = omega (arith, is, blocks-more c count (some-adus c e) (omega (arith, ne)))
+    → new + blocksIn c (count - adusPerBlock c .0) ≤ last + blocksIn c count
+more-serials c e last count new ne is =
+    let left : count - adusPerBlock c .0 ≡ count - min count (adusPerBlock c .0) = omega arith in
+    rw left (omega (arith, is, blocks-more c count (some-adus c e) (omega (arith, ne))))
 
 -- ---- One step, and the rest
 
@@ -138,14 +143,27 @@ rest-none d r v e = by-test (eqb (r .count .0) 0)
 pub rest-zero : (d : ℕ) (r : Rest) (v : Drive) → r .count .0 ≡ 0 → restWritten d r v ≡ nothingWritten v
 rest-zero d r v e = rw (eq-eqb (r .count .0) 0 e)
 
--- What is left once a block has so many of it.
-abbrev pub restAfter : Rest → ℕ → Rest
-restAfter r put = record {
-  placement = r .placement;
-  start = userAddress (r .start) put;
-  count = adus (r .count .0 - put);
-  done = r .done + put;
-}
+-- Whoever writes nothing leaves the drive and the words as they are.
+pub went-nowhere : (d : ℕ) (r : Rest) (v : Drive) (words : List ℕ) → r .count .0 ≡ 0 → WentOn d r v words v words
+went-nowhere d r v words e =
+    let nothing = rest-zero d r v e in
+    record {
+      leaves = ap (λ (x : Written). x .drive) (sym nothing);
+      fills = sym (overwritten-none (r .done) words) ∙ ap (λ (x : Written). overwritten (r .done) (x .addresses) words) (sym nothing);
+    }
+
+-- Whoever writes what is left after a block writes the ADUs from there on.
+pub after-from : (d room : ℕ) (r : Rest) (v : Drive) (words : List ℕ) (u : Drive) (last : List ℕ)
+    → WentOn d (restAfter r room) v words u last → WentOn d (restFrom r (min (r .count .0) room)) v words u last
+after-from d room r v words u last = by-test (leb (r .count .0) room)
+    (λ e. rw e (λ went.
+    let most = leb-true (r .count .0) room e in
+    let same-words : last ≡ words = went .fills ∙ overwritten-none 0 words in
+    rw (went .leaves, same-words) (went-nowhere d (restFrom r (min (r .count .0) room)) v words (omega (arith, most)))))
+    (λ e. rw e (λ went.
+    let more = leb-false (r .count .0) room e in
+    let is : min (r .count .0) room ≡ room = omega (arith, more) in
+    rw is went))
 
 -- The next block, and then what is left.
 pub goes-on : (d n : ℕ) (r : Rest) (v : Drive) (words : List ℕ)
@@ -154,11 +172,12 @@ pub goes-on : (d n : ℕ) (r : Rest) (v : Drive) (words : List ℕ)
     → let put = min (r .count .0) (adusPerBlock (v .table .config) .0) in
     let first = intoNext d (r .placement) n (r .start) (r .count .0) v in
     length (first .addresses) ≡ put
-    → GoesOn d r v words (restAfter r put) (first .drive) (overwritten (r .done) (first .addresses) words)
-goes-on d n r v words l fit room e ne long w last went =
+    → GoesOn d r v words (restAfter r (adusPerBlock (v .table .config) .0)) (first .drive) (overwritten (r .done) (first .addresses) words)
+goes-on d n r v words l fit inside e ne long w last went-after =
     let put = min (r .count .0) (adusPerBlock (v .table .config) .0) in
     let first = intoNext d (r .placement) n (r .start) (r .count .0) v in
-    let after = restAfter r put in
+    let after = restFrom r put in
+    let went = after-from d (adusPerBlock (v .table .config) .0) r (first .drive) (overwritten (r .done) (first .addresses) words) w last went-after in
     let rest = onwards d (r .placement) (userAddress (r .start) put) (r .count .0 - put) (first .drive) in
     let all : restWritten d r v ≡ andThen first rest =
     rest-onwards d r v l ∙ onwards-next d (r .placement) n (r .start) (r .count .0) v l fit e ne in
@@ -167,9 +186,48 @@ goes-on d n r v words l fit room e ne long w last went =
       leaves = went .leaves ∙ ap (λ (x : Written). x .drive) is-rest ∙ ap (λ (x : Written). x .drive) (sym all);
       fills = went .fills
           ∙ ap (λ (x : Written). overwritten (r .done + put) (x .addresses) (overwritten (r .done) (first .addresses) words)) is-rest
-          ∙ overwritten-two (r .done) (r .done + put) (first .addresses) (rest .addresses) words room (omega (arith, long))
+          ∙ overwritten-two (r .done) (r .done + put) (first .addresses) (rest .addresses) words inside (omega (arith, long))
           ∙ ap (λ (x : Written). overwritten (r .done) (x .addresses) words) (sym all);
     }
+
+-- ---- What is left after a block
+
+-- It has its ADUs, ..
+pub after-count : (r : Rest) (room : ℕ) → restAfter r room .count .0 ≡ r .count .0 - room
+after-count r room = by-test (leb (r .count .0) room)
+    (λ e. let most = leb-true (r .count .0) room e in rw e (omega (arith, most)))
+    (λ e. rw e)
+
+-- .. and there is one value for none.
+pub after-one : (r : Rest) (room : ℕ) → restAfter r room .count .0 ≡ 0 → restAfter r room ≡ nothingLeft
+after-one r room = by-test (leb (r .count .0) room)
+    (λ e. rw e (λ _. refl))
+    (λ e. let more = leb-false (r .count .0) room e in rw e (λ none. absurd (omega (arith, more, none))))
+
+-- A new block takes some of it.
+pub new-less : (c : Config) (n : ℕ) (r : Rest) → withinLimits c ≡ true → ¬ (r .count .0 ≡ 0) → restAfterNew c n r .count .0 < r .count .0
+new-less c n r within ne = by-test (ltb n (c .blocks))
+    (λ e. rw e (omega (arith, after-count r (adusPerBlock c .0), some-adus c within, ne)))
+    (λ e. rw e (omega (arith, ne)))
+
+none-fit : userAddressesFit 0 0 ≡ true
+unfolding userAddressesFit allTo
+none-fit = refl
+
+-- It may be written, if all of it may and the owner has serials for it.
+pub may-after : (c : Config) (entries words d : ℕ) (owner : Domain) (r : Rest) (room : ℕ) → withinLimits c ≡ true → isDomainId d ≡ true
+    → entries ≡ storeLength c .0 → owner .last + blocksIn c (r .count .0 - room) ≤ 4294967295
+    → userAddressesFit (r .start) (r .count .0) ≡ true → r .done + r .count .0 ≤ words → MayGoOn c entries words d owner (restAfter r room)
+may-after c entries words d owner r room within id all serials fit enough = record {
+  within = within;
+  id = id;
+  all-entries = all;
+  serials = rw (after-count r room) serials;
+  fit = by-test (leb (r .count .0) room) (λ e. rw e none-fit) (λ e. rw e (later-fit (r .start) (r .count .0) room fit));
+  enough = by-test (leb (r .count .0) room)
+      (λ e. rw e (omega arith))
+      (λ e. let more = leb-false (r .count .0) room e in rw e (omega (arith, more, enough)));
+}
 
 -- ---- The placement's open block first
 

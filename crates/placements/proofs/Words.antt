@@ -1,9 +1,9 @@
 -- Words that are filled one stretch behind the other.
 use Prim.Native.Nat.{ℕ, _+_, _-_, _≤_}
-use mathlib.Core.List.{List, _++_, append-assoc, append-nil}
+use mathlib.Core.List.{List, [], _++_, append-assoc, append-nil}
 use mathlib.Core.Path.{_≡_, sym, ap, _∙_}
 use native.Mathlib.Omega.{arith}
-use lib.ListN.{drop, drop-of-length-le, length, length-append, length-drop, length-take, take}
+use lib.ListN.{drop, drop-of-length-le, length, length-append, length-drop, length-take, take, take-append-drop}
 use lib.Seq.{drop-append-seam, drop-drop, take-all, take-append-seam}
 use Rattle.rules.specs.Drive.{overwritten}
 
@@ -27,6 +27,11 @@ overwritten-two at next these those row l is =
     ∙ ap (λ (x : List ℕ). (front ++ these) ++ (those ++ x)) further
     ∙ append-assoc front these (those ++ drop (length (these ++ those)) (drop at row))
     ∙ ap (λ (x : List ℕ). front ++ x) (sym (append-assoc these those (drop (length (these ++ those)) (drop at row))))
+
+-- A stretch of nothing changes none.
+pub overwritten-none : (at : ℕ) (row : List ℕ) → overwritten at [] row ≡ row
+unfolding overwritten
+overwritten-none at row = take-append-drop at row
 
 -- The words behind the first k, as they are lent on, and all of them with what those then hold.
 abbrev pub behind : ℕ → List ℕ → List ℕ

@@ -1,7 +1,6 @@
 -- The placement's open block: what it takes, and what writing into it needs.
 use Prim.Native.Nat.{ℕ, _+_, _-_, _≤_, _<_}
 use mathlib.Core.Bool.{true}
-use mathlib.Core.Option.{some}
 use mathlib.Core.Path.{_≡_}
 use Rattle.geometry.specs.Address.{isDomainId}
 use Rattle.geometry.specs.Shape.{storeLength, withinLimits}
@@ -9,11 +8,11 @@ use Rattle.geometry.specs.declared.shape.Config.{Config}
 use Rattle.model.specs.declared.block.Block.{Block}
 use Rattle.model.specs.declared.table.Table.{Table}
 use Rattle.placements.specs.Onwards.{blocksIn}
-use Rattle.rules.specs.Drive.{blockAdus, blockAt, domainAt, openBlock, withBlock}
-use Rattle.survey.specs.Sight.{foundIn}
-use Rattle.survey.specs.declared.sight.Found.{Found}
-use Rattle.survey.specs.declared.sight.Found.the-variants as found
-use Rattle.survey.specs.declared.sight.Sight.{Sight}
+use Rattle.rules.specs.Drive.{blockAdus, domainAt, withBlock}
+use Rattle.scan.specs.Summary.{SeesPlacement}
+use Rattle.scan.specs.declared.summary.Found.{Found}
+use Rattle.scan.specs.declared.summary.Found.the-variants as found
+use Rattle.scan.specs.declared.summary.Summary.{Summary}
 use Rattle.tables.specs.Changing.{noBlock}
 use Rattle.transfers.specs.Transfers.{MayWriteIn}
 
@@ -22,7 +21,7 @@ abbrev pub roomOf : Found → Config → Block → ℕ
 roomOf found.Nothing c b = 0
 roomOf (found.Block n) c b = blockAdus c n .0 - b .written .0
 
-abbrev pub roomSeen : Sight → ℕ
+abbrev pub roomSeen : Summary → ℕ
 roomSeen x = roomOf (x .found) (x .config) (x .block)
 
 -- ---- The placement's open block
@@ -36,16 +35,15 @@ abbrev pub intoTable : Found → Block → Table → Table
 intoTable found.Nothing b t = t
 intoTable (found.Block n) b t = withBlock n b t
 
--- The record that is seen is its own.
-pub record OpenSeen (t : Table) (x : Sight) : Type 0 where
-  pub open-record : (n : ℕ) → foundIn (x .found) ≡ some n → blockAt t n ≡ x .block
-
 -- What writing so many ADUs into it needs.
-pub record MayFill (x : Sight) (entries d put : ℕ) : Type 0 where
-  pub writes : (n : ℕ) → x .found ≡ found.Block n → MayWriteIn (x .config) entries d n (x .block) put
+pub record MayFill (x : Summary) (entries d put : ℕ) : Type 0 where
+  pub whole : x .sound ≡ true
+  pub all-entries : entries ≡ storeLength (x .config) .0
+  pub writes : (n : ℕ) → x .found ≡ found.Block n → MayWriteIn (x .config) d n (x .block) put
 
 -- What a write by placement needs, of what is seen, ..
-pub record MayPlace (x : Sight) (entries d count : ℕ) : Type 0 where
+pub record MayPlace (x : Summary) (entries d count : ℕ) : Type 0 where
+  pub whole : x .sound ≡ true
   pub within : withinLimits (x .config) ≡ true
   pub id : isDomainId d ≡ true
   pub all-entries : entries ≡ storeLength (x .config) .0
@@ -55,8 +53,7 @@ pub record MayPlace (x : Sight) (entries d count : ℕ) : Type 0 where
   pub open-room : (n : ℕ) → x .found ≡ found.Block n → x .block .written .0 < blockAdus (x .config) n .0
 
 -- .. and of the table that it is seen of.
-pub record Places (t : Table) (d p : ℕ) (x : Sight) : Type 0 where
+pub record Places (t : Table) (d p : ℕ) (x : Summary) : Type 0 where
   pub same-config : t .config ≡ x .config
   pub same-owner : domainAt t d ≡ x .domain
-  pub is-open : foundIn (x .found) ≡ openBlock t d p
-  pub seen : OpenSeen t x
+  pub seen : SeesPlacement t d p x

@@ -2,8 +2,8 @@
 use geometry::Adus;
 use geometry::Config;
 use geometry::adus_per_block;
-use survey::Found;
-use survey::Sight;
+use scan::Found;
+use scan::Summary;
 ghost use mathlib.Core.Bool.{true};
 ghost use mathlib.Core.Path.{_≡_};
 ghost use Prim.Native.Nat.{_-_, _≤_, min};
@@ -28,13 +28,13 @@ pub(crate) fn smaller(a: Adus, b: Adus) -> Adus
 }
 
 // The ADUs that the placement's open block still takes; none where it has none.
-pub(crate) fn room_in(sight: Sight) -> Adus
-    requires { ⌜ withinLimits (sight .config) ≡ true ⌝ }
-    ensures { λ r. ⌜ r .0 ≡ roomSeen sight ⌝ }
+pub(crate) fn room_in(summary: Summary) -> Adus
+    requires { ⌜ withinLimits (summary .config) ≡ true ⌝ }
+    ensures { λ r. ⌜ r .0 ≡ roomSeen summary ⌝ }
 {
-    let found = sight.found;
-    let config = sight.config;
-    let block = sight.block;
+    let found = summary.found;
+    let config = summary.config;
+    let block = summary.block;
     let written = block.written;
     match found {
         Found::Nothing => Adus(0),

@@ -219,7 +219,7 @@ Appending t d c store words r store′ words′ =
     × (isOverQuota (first .answer) ≡ true) × Again (first .table) d c store₁ words₁ r store′ words′)
 
 appending-of : (t : Table) (d sample : ℕ) (store words : List ℕ) (r : both-types.Served) (store′ words′ : List ℕ)
-    → Appends t d sample store words r store′ words′ → Appending t d (sampleCommand (t .domains) d sample) store words r store′ words′
+    → Appends t d sample store words r store′ words′ → Appending t d (sampleCommand (domainAt t d) d sample) store words r store′ words′
 appending-of t d sample store words r store′ words′ (at-once s o) = inl (s, o)
 appending-of t d sample store words r store′ words′ (again first store₁ words₁ s o a) = inr (first, store₁, words₁, s, o, a)
 
@@ -233,7 +233,7 @@ module _ (t : Table) (d sample : ℕ) (store words : List ℕ) (shape : Shaped t
   abbrev write : Call
   write = k asking sampleWrite d sample
 
-  command-is : (b : Bool) → hasRecorderShape (domainAt t d) ≡ b → sampleCommand (t .domains) d sample ≡ WriteByPlacement d 0 sample (adus (cond b 1 0))
+  command-is : (b : Bool) → hasRecorderShape (domainAt t d) ≡ b → sampleCommand (domainAt t d) d sample ≡ WriteByPlacement d 0 sample (adus (cond b 1 0))
   unfolding sampleCommand
   command-is b e = rw e
 
@@ -318,8 +318,8 @@ module _ (t : Table) (d sample : ℕ) (store words : List ℕ) (shape : Shaped t
       → ServesFor t (append d sample) store words [] (served r store′ words′ [])
   append-served r store′ words′ a =
       by-test (hasRecorderShape (domainAt t d))
-      (λ e. with-shape e r store′ words′ (sampleCommand (t .domains) d sample) (command-is true e) (appending-of t d sample store words r store′ words′ a))
-      (λ e. without e (sampleCommand (t .domains) d sample) (command-is false e) (appending-of t d sample store words r store′ words′ a))
+      (λ e. with-shape e r store′ words′ (sampleCommand (domainAt t d) d sample) (command-is true e) (appending-of t d sample store words r store′ words′ a))
+      (λ e. without e (sampleCommand (domainAt t d) d sample) (command-is false e) (appending-of t d sample store words r store′ words′ a))
     where
       without : hasRecorderShape (domainAt t d) ≡ false → (c : Command) → c ≡ WriteByPlacement d 0 sample (adus 0)
           → Appending t d c store words r store′ words′ → ServesFor t (append d sample) store words [] (served r store′ words′ [])

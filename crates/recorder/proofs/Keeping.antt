@@ -1,5 +1,5 @@
--- What `give_latest` needs: the rows that are gathered tell what the domain keeps, and its answers are those of the rules.
-use Prim.Native.Nat.{ℕ, zero, suc, _+_, _*_, _%_, _≤_, _<_}
+-- What `latest_in` needs: the rows that are gathered tell what the domain keeps, and the answers to 6, 7 and 15 are those of the rules.
+use Prim.Native.Nat.{ℕ, zero, suc, _+_, _*_, _%_, _≤_, _<_, min}
 use mathlib.Core.Bool.{Bool, true, false, _&&_}
 use mathlib.Core.List.{List, [], _∷_, _++_, append-nil}
 use mathlib.Core.Option.{Option, none, some}
@@ -7,8 +7,8 @@ use mathlib.Core.Path.{_≡_, refl, sym, ap, ap₂, _∙_, subst}
 use native.Mathlib.Nat.{mul-le-mul-right}
 use native.Mathlib.Omega.{arith}
 use lib.Dec.{leb, ltb}
-use lib.ListN.{List·getD-append, drop, getD, length, length-append, take}
-use lib.Seq.{take-append-seam}
+use lib.ListN.{List·getD-append, drop, getD, length, length-append, length-take, take}
+use lib.Seq.{getD-take, take-append-seam}
 use borrow.Author.Tests.{le-leb, lt-leb, ltb-false, ltb-true}
 use Rattle.geometry.proofs.Laws.Shape.{by-test, is-between, limits}
 use Rattle.geometry.specs.Questions.{answered, firstNo}
@@ -19,13 +19,14 @@ use Rattle.model.specs.declared.answer.Answer.{Answer}
 use Rattle.model.specs.declared.answer.Answer.the-variants.{Done, Refused}
 use Rattle.model.specs.declared.answer.Refusal.the-variants as refusal
 use Rattle.model.specs.declared.table.Table.{Table}
-use Rattle.recorder.specs.Newest.{FewWritten, FillsFrom, Gathers, Within, keyFor, keyOf, keysTo, partOf, partsOf, rankedTo, writtenTo}
-use Rattle.recorder.specs.Steps.{FillsLatest, Given, Readable}
+use Rattle.recorder.specs.Newest.{FewWritten, Fillable, FillsFrom, Gathers, Within, gatheredParts, keyFor, keyOf, keysTo, partOf, partsOf, rankedTo, writtenTo}
+use Rattle.recorder.specs.Steps.{FillsLatest, Given, Gives, Readable, asked, no-room, out-of-range}
 use Rattle.recorder.specs.declared.newest.Gathered.{Gathered}
 use Rattle.recorder.proofs.Filling.{parts-append}
+use Rattle.recorder.proofs.Gathering.{few-keys}
 use Rattle.recorder.proofs.Ranking.{key-number, ranked}
 use Rattle.rules.specs.Claims.{Shaped}
-use Rattle.rules.specs.Drive.{Drive, blockAt, blockWith, domainAt, entriesOf, heldBy, overwritten, size}
+use Rattle.rules.specs.Drive.{Drive, blockAt, blockWith, clearBlock, domainAt, entriesOf, heldBy, overwritten, size}
 use Rattle.rules.specs.Questions.{isCount}
 use Rattle.rules.specs.Recorder.{hasRecorderShape, kept, keptTo, lastOf, writtenIn}
 use Rattle.rules.proofs.Drive.{overwritten-nothing}
@@ -74,11 +75,11 @@ module _ (t : Table) (d : ℕ) (store : List ℕ) (x : Readable t d store) (shap
       omega (arith, block-few n l, x .whole, next)
 
   -- As many are kept as the blocks have written.
-  pub kept-many : length (kept v d) ≡ writtenTo t d (size t)
+  pub kept-many : length (kept v d) ≡ writtenTo (t .blocks) d (size t)
   unfolding view
   kept-many = kept-length v d low facts ready
 
-  module _ (keys₀ written₀ : List ℕ) (found : Gathered) (keys written : List ℕ) (g : Gathers t d (size t) keys₀ written₀ found keys written) where
+  module _ (keys₀ written₀ : List ℕ) (found : Gathered) (keys written : List ℕ) (g : Gathers (t .blocks) d (size t) keys₀ written₀ found keys written) where
     abbrev last : ℕ
     last = domainAt t d .last
 
@@ -87,7 +88,7 @@ module _ (t : Table) (d : ℕ) (store : List ℕ) (x : Readable t d store) (shap
     unfolding overwritten
     sorted-keys =
         ap₂ (λ (k : ℕ) (l : List ℕ). inOrder (take k l)) (g .as-many) (g .keys-are)
-        ∙ ap (λ (l : List ℕ). inOrder l) (take-append-seam (keysTo t d (size t)) _)
+        ∙ ap (λ (l : List ℕ). inOrder l) (take-append-seam (keysTo (t .blocks) d (size t)) _)
         ∙ ranked v d low facts
 
     take-take : (a b : ℕ) (l : List ℕ) → a ≤ b → take a (take b l) ≡ take a l
@@ -159,15 +160,40 @@ module _ (t : Table) (d : ℕ) (count : Adus) (store words : List ℕ) where
   abbrev shaped : Bool
   shaped = hasRecorderShape (domainAt t d) && isCount count
 
-  pub given-six : shaped ≡ false → Given t d count store words (Refused refusal.Range) words
-  unfolding answered firstNo
-  given-six e = record { answers = rw e; fills = rw e (sym (overwritten-nothing words)) }
+  abbrev samples : List ℕ
+  samples = kept (drive t store) d
 
-  pub given-seven : shaped ≡ true → length words < count .0 → Given t d count store words (Refused refusal.Output) words
+  -- 6, 7 and 15 as the rules ask them.
+  pub are-given : (r : Answer) (words′ : List ℕ) → Gives (domainAt t d) samples count words r words′ → Given t d count store words r words′
   unfolding answered firstNo
-  given-seven e l =
+  are-given r words′ (out-of-range e is same) = record { answers = rw (is, e); fills = rw e (same ∙ sym (overwritten-nothing words)) }
+  are-given r words′ (no-room e l is same) =
       let short : leb (count .0) (length words) ≡ false = lt-leb (count .0) (length words) l in
-      record { answers = rw (e, short); fills = rw (e, short) (sym (overwritten-nothing words)) }
+      record { answers = rw (is, e, short); fills = rw (e, short) (same ∙ sym (overwritten-nothing words)) }
+  are-given r words′ (asked e l f) =
+      let room : leb (count .0) (length words) ≡ true = le-leb (count .0) (length words) l in
+      by-test (leb (count .0) (length samples))
+      (λ many.
+      let done : r ≡ Done = rw many at (f .answers) in
+      let filled : words′ ≡ overwritten 0 (lastOf (count .0) samples) words = rw many at (f .fills) in
+      record { answers = rw (done, e, room, many); fills = rw (e, room, many) filled })
+      (λ fewer.
+      let short : r ≡ Refused refusal.Extent = rw fewer at (f .answers) in
+      let same : words′ ≡ overwritten 0 [] words = rw fewer at (f .fills) in
+      record { answers = rw (short, e, room, fewer); fills = rw (e, room, fewer) same })
+
+-- As many are kept, or fewer.
+pub filled-latest : (samples : List ℕ) (count : Adus) (words words′ : List ℕ) → count .0 ≤ length samples
+    → words′ ≡ overwritten 0 (lastOf (count .0) samples) words → FillsLatest samples count words Done words′
+filled-latest samples count words words′ l filled =
+    let many : leb (count .0) (length samples) ≡ true = le-leb (count .0) (length samples) l in
+    record { answers = rw many; fills = rw many filled }
+
+pub too-few : (samples : List ℕ) (count : Adus) (words : List ℕ) → length samples < count .0
+    → FillsLatest samples count words (Refused refusal.Extent) words
+too-few samples count words l =
+    let fewer : leb (count .0) (length samples) ≡ false = lt-leb (count .0) (length samples) l in
+    record { answers = rw fewer; fills = rw fewer (sym (overwritten-nothing words)) }
 
 -- ---- What the row of keys in order is filled in from
 
@@ -187,67 +213,48 @@ module _ (config : Config) (keys written : List ℕ) (count : Adus) (store words
       × ((count .0 ≤ length (partsOf k store written keys)) × (count .0 ≤ length words))) (sym capacity-is)
       ((small, f .rows, f .within), (f .enough, f .room)))
 
--- The rows that are gathered can be filled in from, in order.
-pub gathered-fills : (t : Table) (d : ℕ) (count : Adus) (store words keys₀ written₀ : List ℕ) (found : Gathered) (keys written : List ℕ)
-    → (x : Readable t d store) → (shape : Shaped t) → (g : Gathers t d (size t) keys₀ written₀ found keys written) → length written₀ ≡ 256
-    → count .0 ≤ length words → count .0 ≤ found .adus
-    → FillsFrom (t .config) (inOrder (take (found .keys) keys)) written count store words
-gathered-fills t d count store words keys₀ written₀ found keys written x shape g long room enough =
-    let is = sorted-keys t d store x shape keys₀ written₀ found keys written g in
-    subst (λ (l : List ℕ). FillsFrom (t .config) l written count store words) (sym is)
-    (record {
-      limits = facts t d store x shape .limits;
-      rows = g .same-length ∙ long;
-      within = all-within t d store x shape keys₀ written₀ found keys written g;
-      enough =
-          subst (λ (l : List ℕ). count .0 ≤ length l) (sym (parts-kept t d store x shape keys₀ written₀ found keys written g))
-          (omega (arith, enough, adus-kept t d store x shape keys₀ written₀ found keys written g));
-      room = room;
-    })
+-- So many can be filled in from what was gathered, in order.
+pub fills-from : (config : Config) (found : Gathered) (keys written : List ℕ) (count : Adus) (store words : List ℕ)
+    → Fillable config found keys written store → count .0 ≤ length words → count .0 ≤ found .adus
+    → FillsFrom config (inOrder (take (found .keys) keys)) written count store words
+fills-from config found keys written count store words x room enough =
+    record { limits = x .limits; rows = x .rows; within = x .within; enough = omega (arith, enough, x .adus); room = room }
 
--- What is then filled in is the end of what the domain keeps.
-pub gathered-given : (t : Table) (d : ℕ) (count : Adus) (store words keys₀ written₀ : List ℕ) (found : Gathered) (keys written words′ : List ℕ)
-    → (x : Readable t d store) → (shape : Shaped t) → (g : Gathers t d (size t) keys₀ written₀ found keys written) → count .0 ≤ found .adus
-    → words′ ≡ overwritten 0 (lastOf (count .0) (partsOf (adusPerBlock (t .config) .0) store written (inOrder (take (found .keys) keys)))) words
-    → FillsLatest t d count store words Done words′
-gathered-given t d count store words keys₀ written₀ found keys written words′ x shape g enough filled =
-    let v = drive t store in
-    let many : leb (count .0) (length (kept v d)) ≡ true =
-    le-leb (count .0) (length (kept v d)) (omega (arith, enough, adus-kept t d store x shape keys₀ written₀ found keys written g)) in
-    let all : partsOf (adusPerBlock (t .config) .0) store written (inOrder (take (found .keys) keys)) ≡ kept v d =
-    ap (λ (l : List ℕ). partsOf (adusPerBlock (t .config) .0) store written l) (sorted-keys t d store x shape keys₀ written₀ found keys written g)
-    ∙ parts-kept t d store x shape keys₀ written₀ found keys written g in
-    record { answers = rw many; fills = rw many (filled ∙ ap (λ (l : List ℕ). overwritten 0 (lastOf (count .0) l) words) all) }
+-- ---- What is gathered of a readable table
 
-pub gathered-too-few : (t : Table) (d : ℕ) (count : Adus) (store words keys₀ written₀ : List ℕ) (found : Gathered) (keys written : List ℕ)
-    → (x : Readable t d store) → (shape : Shaped t) → (g : Gathers t d (size t) keys₀ written₀ found keys written) → found .adus < count .0
-    → FillsLatest t d count store words (Refused refusal.Extent) words
-gathered-too-few t d count store words keys₀ written₀ found keys written x shape g few-adus =
-    let v = drive t store in
-    let fewer : leb (count .0) (length (kept v d)) ≡ false =
-    lt-leb (count .0) (length (kept v d)) (omega (arith, few-adus, adus-kept t d store x shape keys₀ written₀ found keys written g)) in
-    record { answers = rw fewer; fills = rw fewer (sym (overwritten-nothing words)) }
+-- It has no more blocks than records.
+pub few-are-all : (t : Table) (d : ℕ) (store : List ℕ) → Readable t d store → Shaped t → min (size t) 256 ≡ size t
+few-are-all t d store x shape = let most = few t d store x shape in omega (arith, most)
 
--- 6 and 7 are answered yes.
-pub then-filled : (t : Table) (d : ℕ) (count : Adus) (store words : List ℕ) (r : Answer) (words′ : List ℕ)
-    → hasRecorderShape (domainAt t d) && isCount count ≡ true → count .0 ≤ length words
-    → FillsLatest t d count store words r words′ → Given t d count store words r words′
-unfolding answered firstNo
-then-filled t d count store words r words′ e l f =
-    let room : leb (count .0) (length words) ≡ true = le-leb (count .0) (length words) l in
-    by-test (leb (count .0) (length (kept (drive t store) d)))
-    (λ many.
-    let done : r ≡ Done = rw many at (f .answers) in
-    let filled : words′ ≡ overwritten 0 (lastOf (count .0) (kept (drive t store) d)) words = rw many at (f .fills) in
-    record { answers = rw (done, e, room, many); fills = rw (e, room, many) filled })
-    (λ fewer.
-    let no : r ≡ Refused refusal.Extent = rw fewer at (f .answers) in
-    let same : words′ ≡ overwritten 0 [] words = rw fewer at (f .fills) in
-    record { answers = rw (no, e, room, fewer); fills = rw (e, room, fewer) same })
+-- The first records, which are lent, have few written ADUs.
+pub may-gather : (t : Table) (d : ℕ) (store : List ℕ) → Readable t d store → Shaped t → FewWritten (take (size t) (t .blocks))
+may-gather t d store x shape n l =
+    let below : n < size t = omega (arith, l, length-take (size t) (t .blocks)) in
+    let small = limits (t .config) (facts t d store x shape .limits) .adus in
+    rw (getD-take (size t) (t .blocks) n clearBlock below) (omega (arith, block-few t d store x shape n below, small))
 
--- What is gathered of a sound table fits.
-pub may-gather : (t : Table) (d : ℕ) (store : List ℕ) → Readable t d store → Shaped t → (size t ≤ 256) × FewWritten t
-may-gather t d store x shape = (
-  few t d store x shape,
-  λ n l. let small = limits (t .config) (facts t d store x shape .limits) .adus in omega (arith, block-few t d store x shape n l, small),
-)
+module _ (t : Table) (d : ℕ) (store : List ℕ) (x : Readable t d store) (shape : Shaped t) (keys₀ written₀ : List ℕ) (found : Gathered) (keys written : List ℕ)
+    (g : Gathers (t .blocks) d (size t) keys₀ written₀ found keys written) where
+  -- It is what the domain keeps.
+  gathered-kept : gatheredParts (t .config) found keys written store ≡ kept (drive t store) d
+  gathered-kept =
+      ap (λ (l : List ℕ). partsOf (adusPerBlock (t .config) .0) store written l) (sorted-keys t d store x shape keys₀ written₀ found keys written g)
+      ∙ parts-kept t d store x shape keys₀ written₀ found keys written g
+
+  pub gathered-fillable : length keys₀ ≡ 256 → length written₀ ≡ 256 → Fillable (t .config) found keys written store
+  gathered-fillable many rows = record {
+    limits = facts t d store x shape .limits;
+    many = g .as-long ∙ many;
+    few = omega (arith, g .as-many, few-keys (t .blocks) d (size t), few t d store x shape);
+    rows = g .same-length ∙ rows;
+    within =
+        subst (λ (l : List ℕ). Within (adusPerBlock (t .config) .0) store written l) (sym (sorted-keys t d store x shape keys₀ written₀ found keys written g))
+        (all-within t d store x shape keys₀ written₀ found keys written g);
+    adus = adus-kept t d store x shape keys₀ written₀ found keys written g ∙ ap length (sym gathered-kept);
+  }
+
+  -- So what is given of it is given as the rules say.
+  pub gathered-given : (count : Adus) (words : List ℕ) (r : Answer) (words′ : List ℕ)
+      → Gives (domainAt t d) (gatheredParts (t .config) found keys written store) count words r words′ → Given t d count store words r words′
+  gathered-given count words r words′ gives =
+      are-given t d count store words r words′ (subst (λ (l : List ℕ). Gives (domainAt t d) l count words r words′) gathered-kept gives)

@@ -23,15 +23,19 @@ use denote.Memory.{mem, partAt}
 use denote.RattleType.{RattleType, owns}
 use denote.Ref.{RefT, MutRef, at-last, ptr-vals}
 use denote.Slice.{MutSlice, finally, sliceVal}
-use denote.Steps.{nothing, only, owned, peeks}
-use denote.Struct.Laws.{makes, tells, val}
-use borrow.Table.OneValue.{part-out, part-in}
+use denote.Steps.{nothing, only, peeks}
+use denote.Struct.Laws.{tells, val}
+use borrow.Table.OneValue.{part-out}
+use Rattle.lent_blocks.proofs.Relending.{KeptOf, LentAs, SliceAt, lentAs, slice-back, slice-in, slice-lends, slice-out}
 use Rattle.model.specs.declared.answer.Answer.{Answer}
 use Rattle.model.specs.declared.table.Table.{Table}
 use Rattle.model.proofs.answer.Answer as answer
 use Rattle.model.proofs.table.Table as table
-use Rattle.model.proofs.table.Table.Laws.{mir as layout, the-laws, the-plain}
-use Rattle.recorder.proofs.Slices.{Elements, KeptOf, LentAs, SliceAt, lentAs, slice, slice-back, slice-in, slice-lends, slice-out}
+use Rattle.model.proofs.table.Table.Laws.{mir as layout, the-laws}
+
+-- The machine value of a slice.
+abbrev pub slice : RefT (List ℕ) → Val
+slice s = sliceVal (s .ptr) (length (s .now))
 
 -- The table, the store and the words at a moment.
 pub record State : Type 0 where
@@ -77,10 +81,10 @@ module _ (L : Lent) where
   TableAt u = fsep (MutRef (named 0) (L .κ₀) table.the-row .own (at-last (L .table) u) (ptr-vals (L .table))) (flft (L .κ₀) (L .q₀))
 
   abbrev pub StoreAt : List ℕ → Fml
-  StoreAt = SliceAt (L .κ₁) (L .q₁) (L .store)
+  StoreAt = SliceAt u64 (L .κ₁) (L .q₁) (L .store)
 
   abbrev pub WordsAt : List ℕ → Fml
-  WordsAt = SliceAt (L .κ₂) (L .q₂) (L .words)
+  WordsAt = SliceAt u64 (L .κ₂) (L .q₂) (L .words)
 
   abbrev pub Owned : State → Fml
   Owned z = fsep (TableAt (z .table)) (fsep (StoreAt (z .store)) (WordsAt (z .words)))
@@ -118,10 +122,10 @@ module _ (L : Lent) where
     table-lent = record { ptr = L .table .ptr; name = a .of-table .1; now = z .table }
 
     abbrev pub store-lent : RefT (List ℕ)
-    store-lent = lentAs (L .κ₁) (L .q₁) (L .store) (a .of-store) (z .store)
+    store-lent = lentAs u64 (L .κ₁) (L .q₁) (L .store) (a .of-store) (z .store)
 
     abbrev pub words-lent : RefT (List ℕ)
-    words-lent = lentAs (L .κ₂) (L .q₂) (L .words) (a .of-words) (z .words)
+    words-lent = lentAs u64 (L .κ₂) (L .q₂) (L .words) (a .of-words) (z .words)
 
     -- What a callee is handed of them, ..
     abbrev Alive : Fml
@@ -131,14 +135,14 @@ module _ (L : Lent) where
     LentTable = MutRef (named 0) (a .of-table .0 ∷ []) table.the-row .own table-lent (ptr-vals table-lent)
 
     abbrev pub Handed : Fml
-    Handed = fsep Alive (fsep LentTable (fsep (LentAs (L .κ₁) (L .q₁) (L .store) 1 (a .of-store) (z .store)) (LentAs (L .κ₂) (L .q₂) (L .words) 2 (a .of-words) (z .words))))
+    Handed = fsep Alive (fsep LentTable (fsep (LentAs u64 (L .κ₁) (L .q₁) (L .store) 1 (a .of-store) (z .store)) (LentAs u64 (L .κ₂) (L .q₂) (L .words) 2 (a .of-words) (z .words))))
 
     -- .. what the lender keeps meanwhile, ..
     abbrev KeptTable : Fml
     KeptTable = LentAgain table.the-row (L .κ₀) (a .of-table .0 ∷ []) (L .q₀) (L .table .name) b o (a .of-table .1) (z .table)
 
     abbrev pub Kept : Fml
-    Kept = fsep KeptTable (fsep (KeptOf (L .κ₁) (L .q₁) (L .store) (a .of-store) (z .store)) (KeptOf (L .κ₂) (L .q₂) (L .words) (a .of-words) (z .words)))
+    Kept = fsep KeptTable (fsep (KeptOf u64 (L .κ₁) (L .q₁) (L .store) (a .of-store) (z .store)) (KeptOf u64 (L .κ₂) (L .q₂) (L .words) (a .of-words) (z .words)))
 
     -- .. and what says their last values, as a callee leaves it.
     abbrev pub LastTable : Fml
@@ -162,20 +166,19 @@ module _ {M : Type 1} (𝓤 : URA M) (H : Heap 𝓤) (A : Atoms 𝓤) (W : Given
       -- [the words' token; true; the store's; the table's; what is lent]
       move ! (4 ∷ []) $ fsplit ! $ move ! (1 ∷ []) $ fsplit ! $ drop ! $ fsplit ! $ drop ! $ fsplit ! $ move ! (1 ∷ []) $ fsplit ! $
       -- [the words; true; the store; the table; the words' token; true; the store's; the table's]
-      use1 W (‵ (Elements (L .κ₂) (L .q₂) (L .words) (L .words .now))) (slice-in (L .κ₂) (L .q₂) (L .words) 𝓤 H A W 2 (L .words .now) (slice (L .words))) $
-      move ! (0 ∷ 4 ∷ []) $ fjoin ! $ move ! (2 ∷ []) $
-      use1 W (‵ (Elements (L .κ₁) (L .q₁) (L .store) (L .store .now))) (slice-in (L .κ₁) (L .q₁) (L .store) 𝓤 H A W 1 (L .store .now) (slice (L .store))) $
-      move ! (0 ∷ 5 ∷ []) $ fjoin ! $ move ! (0 ∷ 1 ∷ []) $ fjoin ! $ move ! (2 ∷ 4 ∷ []) $ fjoin ! $ move ! (0 ∷ 1 ∷ []) $ fjoin ! $ keep ! (0 ∷ []) $ done !
+      move ! (0 ∷ 4 ∷ []) $ use2 W (‵ (WordsAt L (L .words .now))) (slice-in u64 (L .κ₂) (L .q₂) (L .words) 𝓤 H A W 2 (L .words .now) (slice (L .words))) $ move ! (2 ∷ 5 ∷ []) $
+      use2 W (‵ (StoreAt L (L .store .now))) (slice-in u64 (L .κ₁) (L .q₁) (L .store) 𝓤 H A W 1 (L .store .now) (slice (L .store))) $
+      move ! (0 ∷ 1 ∷ []) $ fjoin ! $ move ! (2 ∷ 4 ∷ []) $ fjoin ! $ move ! (0 ∷ 1 ∷ []) $ fjoin ! $ keep ! (0 ∷ []) $ done !
 
   pub leaves : (z : State) → SameLengths (begun L) z → ent 𝓤 (sem 𝓤 H A (Owned L z)) (sep 𝓤 (sem 𝓤 H A (Tokens L)) (sem 𝓤 H A (AtExit L z)))
   leaves z same =
-      qed W (‵ (Owned L z) ∷ []) ∵ fsplit ! $ fsplit ! $ move ! (2 ∷ []) $ fsplit ! $ fsplit ! $ move ! (2 ∷ []) $ fsplit ! $
+      qed W (‵ (Owned L z) ∷ []) ∵ fsplit ! $ fsplit ! $ move ! (2 ∷ []) $ fsplit ! $
+      use1 W (‵ (MutSlice (named 1) (L .κ₁) u64 .own (at-last (L .store) (z .store)) (slice (L .store) ∷ [])) ⊛ ‵ (flft (L .κ₁) (L .q₁)))
+      (slice-out u64 (L .κ₁) (L .q₁) (L .store) 𝓤 H A W 1 (z .store) (slice (L .store)) (ap (sliceVal (L .store .ptr)) (sym (same .same-store)))) $ split ! $ move ! (2 ∷ []) $
+      use1 W (‵ (MutSlice (named 2) (L .κ₂) u64 .own (at-last (L .words) (z .words)) (slice (L .words) ∷ [])) ⊛ ‵ (flft (L .κ₂) (L .q₂)))
+      (slice-out u64 (L .κ₂) (L .q₂) (L .words) 𝓤 H A W 2 (z .words) (slice (L .words)) (ap (sliceVal (L .words .ptr)) (sym (same .same-words)))) $ split ! $
       -- [the words; their token; the store; its token; the table; its token]
-      use1 W (‵ (MutSlice (named 2) (L .κ₂) u64 .own (at-last (L .words) (z .words)) (slice (L .words) ∷ [])))
-      (slice-out (L .κ₂) (L .q₂) (L .words) 𝓤 H A W 2 (z .words) (slice (L .words)) (ap (sliceVal (L .words .ptr)) (sym (same .same-words)))) $
       nothing ! $ move ! (1 ∷ 0 ∷ []) $ fjoin ! $ move ! (2 ∷ []) $
-      use1 W (‵ (MutSlice (named 1) (L .κ₁) u64 .own (at-last (L .store) (z .store)) (slice (L .store) ∷ [])))
-      (slice-out (L .κ₁) (L .q₁) (L .store) 𝓤 H A W 1 (z .store) (slice (L .store)) (ap (sliceVal (L .store .ptr)) (sym (same .same-store)))) $
       fjoin ! $ nothing ! $ fjoin ! $ nothing ! $ fjoin ! $ move ! (3 ∷ 0 ∷ []) $ fjoin ! $
       nothing ! $ move ! (2 ∷ 0 ∷ []) $ fjoin ! $ move ! (2 ∷ 0 ∷ []) $ fjoin ! $ move ! (2 ∷ 0 ∷ []) $ fjoin ! $ done !
 
@@ -194,20 +197,12 @@ module _ {M : Type 1} (𝓤 : URA M) (H : Heap 𝓤) (A : Atoms 𝓤) (W : Given
       rewrite ! 0 (λ (u : Val). ‵ (fat fullShare layout (b L) (o L) u)) (ap only are) refl $ move ! (3 ∷ 4 ∷ []) $ fjoin ! $ move ! (3 ∷ 0 ∷ []) $ fjoin ! $
       move ! (2 ∷ 0 ∷ []) $ fjoin ! $ move ! (1 ∷ 0 ∷ []) $ at-once ! $ check ! (subst (Is table.the-row (z .table)) are is) $ done !))
 
-  -- The borrow is closed again: with the table as it lies there, ..
+  -- The borrow is closed again.
   pub shuts-again : (z : State) → ent 𝓤 (sep 𝓤 (sem 𝓤 H A (partAt table.the-row fullShare (z .table) (b L) (o L))) (sem 𝓤 H A (Opened L z))) (H .⇛ (sem 𝓤 H A (Owned L z)))
   shuts-again z =
       qed W (‵ (partAt table.the-row fullShare (z .table) (b L) (o L)) ∷ ‵ (Opened L z) ∷ []) ∵ updating ! $
       move ! (1 ∷ []) $ fsplit ! $ move ! (1 ∷ []) $ fsplit ! $ move ! (1 ∷ []) $ fsplit ! $ move ! (4 ∷ 3 ∷ 2 ∷ 0 ∷ []) $
       close-ref ! tt (mem table.the-row) (z .table) $ at-once ! $ feqI ! (List Val) (ptr-vals (L .table)) (ptr-vals (L .table)) refl $ fjoin3 ! $ fjoin ! $ fjoin ! $ done !
-
-  -- .. and with its machine value.
-  pub shuts : (z : State) → Is table.the-row (z .table) (tableValue L z ∷ []) → ent 𝓤 (sep 𝓤 (sem 𝓤 H A (TableLies L z)) (sem 𝓤 H A (Opened L z))) (H .⇛ (sem 𝓤 H A (Owned L z)))
-  shuts z is =
-      qed W (‵ (TableLies L z) ∷ ‵ (Opened L z) ∷ []) ∵ updating ! $
-      owned ! table.the-row (Is table.the-row) (makes table.the-type the-plain 𝓤 H A) (z .table) (tableValue L z ∷ []) is $ move ! (1 ∷ 0 ∷ []) $
-      use2 W (‵ (partAt table.the-row fullShare (z .table) (b L) (o L))) (part-in 𝓤 H A W table.the-row refl fullShare (z .table) (b L) (o L) (tableValue L z)) $
-      use2 W (later (‵ (Owned L z))) (shuts-again z) $ await ! tt $ at-once ! $ done !
 
   -- ---- All three are lent on
 
@@ -222,13 +217,13 @@ module _ {M : Type 1} (𝓤 : URA M) (H : Heap 𝓤) (A : Atoms 𝓤) (W : Given
       -- .. the store, ..
       move ! (3 ∷ []) $ fsplit ! $
       use1 W (later (some (λ (e : ℕ × GName). ‵ (flft (e .0 ∷ []) fullShare)
-      ⊛ (‵ (LentAs (L .κ₁) (L .q₁) (L .store) 1 e (z .store)) ⊛ ‵ (KeptOf (L .κ₁) (L .q₁) (L .store) e (z .store))))))
-      (slice-lends (L .κ₁) (L .q₁) (L .store) 𝓤 H A W 1 (z .store)) $ await ! tt $ pick ! (λ e₁. split ! $ move ! (1 ∷ []) $ split ! $
+      ⊛ (‵ (LentAs u64 (L .κ₁) (L .q₁) (L .store) 1 e (z .store)) ⊛ ‵ (KeptOf u64 (L .κ₁) (L .q₁) (L .store) e (z .store))))))
+      (slice-lends u64 (L .κ₁) (L .q₁) (L .store) 𝓤 H A W 1 (z .store)) $ await ! tt $ pick ! (λ e₁. split ! $ move ! (1 ∷ []) $ split ! $
       -- .. and the words
       move ! (3 ∷ []) $
       use1 W (later (some (λ (e : ℕ × GName). ‵ (flft (e .0 ∷ []) fullShare)
-      ⊛ (‵ (LentAs (L .κ₂) (L .q₂) (L .words) 2 e (z .words)) ⊛ ‵ (KeptOf (L .κ₂) (L .q₂) (L .words) e (z .words))))))
-      (slice-lends (L .κ₂) (L .q₂) (L .words) 𝓤 H A W 2 (z .words)) $ await ! tt $ pick ! (λ e₂. split ! $ move ! (1 ∷ []) $ split ! $
+      ⊛ (‵ (LentAs u64 (L .κ₂) (L .q₂) (L .words) 2 e (z .words)) ⊛ ‵ (KeptOf u64 (L .κ₂) (L .q₂) (L .words) e (z .words))))))
+      (slice-lends u64 (L .κ₂) (L .q₂) (L .words) 𝓤 H A W 2 (z .words)) $ await ! tt $ pick ! (λ e₂. split ! $ move ! (1 ∷ []) $ split ! $
       -- [the words; what is kept of them; their token; the store; what is kept of it; its token; the table; what is kept of it; its token]
       at-once ! $ show ! (λ (e : Loan). sep 𝓤 (sem 𝓤 H A (Handed L e z)) (sem 𝓤 H A (Kept L e z))) (record { of-table = (α, γ); of-store = e₁; of-words = e₂ }) $
       move ! (3 ∷ 0 ∷ []) $ fjoin ! $ move ! (5 ∷ 0 ∷ []) $ fjoin ! $ move ! (3 ∷ 1 ∷ []) $ fjoin ! $ move ! (4 ∷ 0 ∷ []) $ fjoin ! $
@@ -246,10 +241,10 @@ module _ {M : Type 1} (𝓤 : URA M) (H : Heap 𝓤) (A : Atoms 𝓤) (W : Given
       (comes-back 𝓤 H A W table.the-row (named 0) (L .κ₀) (a .of-table .0 ∷ []) (L .q₀) (L .table .name) (b L) (o L) (a .of-table .1) (z .table) (z′ .table)) $
       await ! tt $ split ! $ fjoin ! $ move ! (1 ∷ []) $ fsplit ! $ move ! (0 ∷ 3 ∷ 5 ∷ []) $
       use3 W (later (given (length (z′ .store) ≡ length (z .store)) (‵ (StoreAt L (z′ .store)))))
-      (slice-back (L .κ₁) (L .q₁) (L .store) 𝓤 H A W (a .of-store) (z .store) (z′ .store)) $ await ! tt $ learn ! (λ e₁.
+      (slice-back u64 (L .κ₁) (L .q₁) (L .store) 𝓤 H A W (a .of-store) (z .store) (z′ .store)) $ await ! tt $ learn ! (λ e₁.
       move ! (1 ∷ []) $ fsplit ! $ move ! (0 ∷ 4 ∷ 5 ∷ []) $
       use3 W (later (given (length (z′ .words) ≡ length (z .words)) (‵ (WordsAt L (z′ .words)))))
-      (slice-back (L .κ₂) (L .q₂) (L .words) 𝓤 H A W (a .of-words) (z .words) (z′ .words)) $ await ! tt $ learn ! (λ e₂.
+      (slice-back u64 (L .κ₂) (L .q₂) (L .words) 𝓤 H A W (a .of-words) (z .words) (z′ .words)) $ await ! tt $ learn ! (λ e₂.
       move ! (2 ∷ 0 ∷ []) $ fjoin ! $ move ! (2 ∷ 0 ∷ []) $ fjoin ! $ at-once ! $ check ! (record { same-store = e₁; same-words = e₂ }) $ keep ! (0 ∷ []) $ done !))
 
   -- What a callee's contract says, without the lengths.

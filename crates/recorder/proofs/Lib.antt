@@ -2,11 +2,12 @@ pub mod Rows
 pub mod Filling
 pub mod Gathering
 pub mod Ranking
-pub mod Domains
+pub mod Shapes
 pub mod Keeping
 pub mod Oldest
-pub mod Slices
+pub mod Arrays
 pub mod Lending
 pub mod Records
+pub mod Seeing
 pub mod Calls
 pub mod Contracts

@@ -18,7 +18,7 @@ use Rattle.rules.specs.Drive.{blockAt, clearBlock, closedOf, size}
 use Rattle.recorder.specs.Choice.{found, foundIn, noneFound, olderOf}
 use Rattle.recorder.specs.Samples.{freeing, numberOr}
 use Rattle.rules.specs.Recorder.{older, oldestClosed, oldestTo}
-use Rattle.recorder.specs.declared.choice.Found.{Found}
+use Rattle.recorder.specs.declared.choice.Oldest.{Oldest}
 
 -- Among no records nothing is found, and one record more is one step more.
 pub found-none : (bs : List Block) (d : ℕ) → foundIn bs d 0 ≡ noneFound
@@ -30,7 +30,7 @@ unfolding foundIn
 found-next bs d n = rw add-one
 
 -- A number of the rules, with the serial of its block; and none.
-abbrev foundOf : Table → Option ℕ → Found
+abbrev foundOf : Table → Option ℕ → Oldest
 foundOf t none = noneFound
 foundOf t (some n) = found n (blockAt t n .serial)
 
@@ -53,7 +53,7 @@ found-lent : (t : Table) (d m k : ℕ) → Narrow t → k ≤ m → foundIn (tak
 unfolding foundIn oldestTo
 found-lent t d m zero narrow l = refl
 found-lent t d m (suc k) narrow l =
-    ap₂ (λ (f : Found) (b : Block). olderOf f k b d) (found-lent t d m k narrow (omega (arith, l))) (getD-take m (t .blocks) k clearBlock (omega (arith, l)))
+    ap₂ (λ (f : Oldest) (b : Block). olderOf f k b d) (found-lent t d m k narrow (omega (arith, l))) (getD-take m (t .blocks) k clearBlock (omega (arith, l)))
     ∙ sym (found-older t d k (oldestTo t d k) narrow)
 
 -- A clear record is not that of a Closed block, ..
@@ -92,4 +92,4 @@ frees t d n narrow all is =
     let oldest : foundIn (take n (t .blocks)) d (length (take n (t .blocks))) ≡ foundOf t (oldestClosed t d) =
     ap (foundIn (take n (t .blocks)) d) long ∙ found-lent t d n n narrow (omega arith)
     ∙ ap (λ (k : ℕ). foundOf t (oldestTo t d k)) is ∙ ap (foundOf t) (oldest-of-few t d 256 (size t) (omega (arith, all))) in
-    ap (λ (f : Found). Free d (f .number)) oldest ∙ ap (Free d) (number-found t (oldestClosed t d))
+    ap (λ (f : Oldest). Free d (f .number)) oldest ∙ ap (Free d) (number-found t (oldestClosed t d))

@@ -65,7 +65,7 @@ isKey t d x = heldBy d (blockAt t (x % 256)) && eqb (blockAt t (x % 256) .serial
 
 module _ (t : Table) (d : ℕ) where
   -- How often a number stands among the keys of the first n blocks, ..
-  keys-counted : (n x : ℕ) → n ≤ 256 → timesIn x (keysTo t d n) ≡ once (ltb (x % 256) n && isKey t d x)
+  keys-counted : (n x : ℕ) → n ≤ 256 → timesIn x (keysTo (t .blocks) d n) ≡ once (ltb (x % 256) n && isKey t d x)
   unfolding keysTo timesIn
   keys-counted zero x l = rw (le-ltb (x % 256) 0 (omega arith))
   keys-counted (suc n) x l =
@@ -75,7 +75,7 @@ module _ (t : Table) (d : ℕ) where
       by-test (heldBy d (blockAt t n))
       (λ h. rw (h, same-key (blockAt t n .serial) n x (omega (arith, l))) (omega arith))
       (λ h. rw h) in
-      times-append x (keysTo t d n) _
+      times-append x (keysTo (t .blocks) d n) _
       ∙ ap₂ (λ (a b : ℕ). a + b) before added
       ∙ by-eq n (x % 256)
       (λ e.
@@ -186,11 +186,11 @@ module _ (v : Drive) (d : ℕ) (low : 1 ≤ d) (facts : Facts v) where
           (λ y some-there. omega (arith, ranked-under s y some-there))
 
   -- So the keys in order are those by rising serial.
-  pub ranked : inOrder (keysTo tb d (size tb)) ≡ rankedTo tb d (domainAt tb d .last)
+  pub ranked : inOrder (keysTo (tb .blocks) d (size tb)) ≡ rankedTo tb d (domainAt tb d .last)
   ranked =
       let last = domainAt tb d .last in
-      sorted-same 0 0 (inOrder (keysTo tb d (size tb))) (rankedTo tb d last) (in-order-sorted (keysTo tb d (size tb))) (ranked-rises last)
-      (λ x. in-order-counts x (keysTo tb d (size tb)) ∙ keys-counted tb d (size tb) x few ∙ same-test x ∙ sym (ranked-counted last x))
+      sorted-same 0 0 (inOrder (keysTo (tb .blocks) d (size tb))) (rankedTo tb d last) (in-order-sorted (keysTo (tb .blocks) d (size tb))) (ranked-rises last)
+      (λ x. in-order-counts x (keysTo (tb .blocks) d (size tb)) ∙ keys-counted tb d (size tb) x few ∙ same-test x ∙ sym (ranked-counted last x))
     where
       same-test : (x : ℕ) → once (ltb (x % 256) (size tb) && isKey tb d x) ≡ once (isRanked (domainAt tb d .last) x)
       same-test x =

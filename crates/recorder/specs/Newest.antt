@@ -12,17 +12,22 @@ use Rattle.geometry.specs.declared.shape.Config.{Config}
 use Rattle.model.specs.declared.block.Block.{Block}
 use Rattle.model.specs.declared.table.Table.{Table}
 use Rattle.rules.specs.Counting.{sumTo}
-use Rattle.rules.specs.Drive.{blockAt, blockWith, heldBy, overwritten, size}
+use Rattle.rules.specs.Drive.{blockWith, clearBlock, heldBy, overwritten}
+use Rattle.sorting.specs.Order.{inOrder}
 use Rattle.recorder.specs.declared.newest.Gathered.{Gathered}
 
 -- A block's serial and number in one number: keys are ordered as the serials are.
 abbrev pub keyOf : ℕ → ℕ → ℕ
 keyOf serial n = serial * 256 + n
 
+-- One of some blocks.
+abbrev pub recordAt : List Block → ℕ → Block
+recordAt bs n = getD bs n clearBlock
+
 -- The keys of the domain's blocks, by number, ..
-unfoldable pub keysTo : Table → ℕ → ℕ → List ℕ
-keysTo t d zero = []
-keysTo t d (suc n) = keysTo t d n ++ cond (heldBy d (blockAt t n)) (keyOf (blockAt t n .serial) n ∷ []) []
+unfoldable pub keysTo : List Block → ℕ → ℕ → List ℕ
+keysTo bs d zero = []
+keysTo bs d (suc n) = keysTo bs d n ++ cond (heldBy d (recordAt bs n)) (keyOf (recordAt bs n .serial) n ∷ []) []
 
 -- .. and by serial.
 abbrev pub keyFor : ℕ → Option ℕ → List ℕ
@@ -34,8 +39,8 @@ rankedTo t d zero = []
 rankedTo t d (suc serial) = rankedTo t d serial ++ keyFor (suc serial) (blockWith t d (suc serial))
 
 -- How many ADUs of the domain's blocks below n are written.
-abbrev pub writtenTo : Table → ℕ → ℕ → ℕ
-writtenTo t d n = sumTo (λ i. cond (heldBy d (blockAt t i)) (blockAt t i .written .0) 0) n
+abbrev pub writtenTo : List Block → ℕ → ℕ → ℕ
+writtenTo bs d n = sumTo (λ i. cond (heldBy d (recordAt bs i)) (recordAt bs i .written .0) 0) n
 
 -- What one block more makes of what was gathered.
 pub record Notes (found : Gathered) (n : ℕ) (b : Block) (d : ℕ) (keys written : List ℕ) (r : Gathered) (keys′ written′ : List ℕ) : Type 0 where
@@ -45,17 +50,17 @@ pub record Notes (found : Gathered) (n : ℕ) (b : Block) (d : ℕ) (keys writte
   pub written-are : written′ ≡ cond (heldBy d b) (set written n (b .written .0)) written
 
 -- No block has more written than any block can take.
-abbrev pub FewWritten : Table → Type 0
-FewWritten t = (n : ℕ) → n < size t → blockAt t n .written .0 ≤ 1048576
+abbrev pub FewWritten : List Block → Type 0
+FewWritten bs = (n : ℕ) → n < length bs → recordAt bs n .written .0 ≤ 1048576
 
 -- What is gathered of the first n blocks.
-pub record Gathers (t : Table) (d n : ℕ) (keys written : List ℕ) (r : Gathered) (keys′ written′ : List ℕ) : Type 0 where
-  pub as-many : r .keys ≡ length (keysTo t d n)
-  pub adus : r .adus ≡ writtenTo t d n
-  pub keys-are : keys′ ≡ overwritten 0 (keysTo t d n) keys
+pub record Gathers (bs : List Block) (d n : ℕ) (keys written : List ℕ) (r : Gathered) (keys′ written′ : List ℕ) : Type 0 where
+  pub as-many : r .keys ≡ length (keysTo bs d n)
+  pub adus : r .adus ≡ writtenTo bs d n
+  pub keys-are : keys′ ≡ overwritten 0 (keysTo bs d n) keys
   pub as-long : length keys′ ≡ length keys
   pub same-length : length written′ ≡ length written
-  pub written-are : (i : ℕ) → i < n → heldBy d (blockAt t i) ≡ true → getD written′ i 0 ≡ blockAt t i .written .0
+  pub written-are : (i : ℕ) → i < n → heldBy d (recordAt bs i) ≡ true → getD written′ i 0 ≡ recordAt bs i .written .0
 
 -- The written ADUs of the block of a key, where each block has c entries of the store; and those of a row of keys.
 abbrev pub partOf : ℕ → List ℕ → List ℕ → ℕ → List ℕ
@@ -77,6 +82,19 @@ pub record FillsFrom (config : Config) (keys written : List ℕ) (count : Adus) 
   pub within : Within (adusPerBlock config .0) store written keys
   pub enough : count .0 ≤ length (partsOf (adusPerBlock config .0) store written keys)
   pub room : count .0 ≤ length words
+
+-- What the blocks that were gathered have written, by rising key.
+abbrev pub gatheredParts : Config → Gathered → List ℕ → List ℕ → List ℕ → List ℕ
+gatheredParts config found keys written store = partsOf (adusPerBlock config .0) store written (inOrder (take (found .keys) keys))
+
+-- It lies within the store, and there is as much of it as was counted.
+pub record Fillable (config : Config) (found : Gathered) (keys written store : List ℕ) : Type 0 where
+  pub limits : withinLimits config ≡ true
+  pub many : length keys ≡ 256
+  pub few : found .keys ≤ 256
+  pub rows : length written ≡ 256
+  pub within : Within (adusPerBlock config .0) store written (inOrder (take (found .keys) keys))
+  pub adus : found .adus ≡ length (gatheredParts config found keys written store)
 
 -- So many of the last written ADUs of a block are put into the end of the words that are left to fill.
 pub record PutsBlock (key : ℕ) (written : List ℕ) (c left : ℕ) (store words : List ℕ) (r : ℕ) (words′ : List ℕ) : Type 0 where

@@ -1,10 +1,8 @@
 -- The commands that a recorder sends for a sample, and what it reads off an answer.
-use Prim.Native.Nat.{ℕ, _-_}
+use Prim.Native.Nat.{ℕ}
 use mathlib.Core.Bool.{Bool, false, cond}
-use mathlib.Core.List.{List}
 use mathlib.Core.Option.{Option, none, some}
 use lib.Dec.{eqb}
-use lib.ListN.{getD}
 use Rattle.geometry.specs.Shape.{adus}
 use Rattle.model.specs.Answers.{numberOf}
 use Rattle.model.specs.declared.answer.Answer.{Answer}
@@ -13,13 +11,12 @@ use Rattle.model.specs.declared.command.Command.{Command}
 use Rattle.model.specs.declared.command.Command.the-variants.{Free, WriteByPlacement}
 use Rattle.model.specs.declared.table.Domain.{Domain}
 use Rattle.model.specs.declared.table.Table.{Table}
-use Rattle.rules.specs.Drive.{clearDomain}
 use Rattle.rules.specs.Recorder.{hasRecorderShape, oldestClosed}
 
--- The write of one sample to the domain d. For a domain of another shape it is a write of no ADUs, which is refused
--- by its range.
-unfoldable pub sampleCommand : List Domain → ℕ → ℕ → Command
-sampleCommand ds d sample = WriteByPlacement d 0 sample (adus (cond (hasRecorderShape (getD ds (d - 1) clearDomain)) 1 0))
+-- The write of one sample to the domain d, which has this record. For a domain of another shape it is a write of no ADUs,
+-- which is refused by its range.
+unfoldable pub sampleCommand : Domain → ℕ → ℕ → Command
+sampleCommand owner d sample = WriteByPlacement d 0 sample (adus (cond (hasRecorderShape owner) 1 0))
 
 -- A write of no ADUs: it changes nothing, and is refused by its range where nothing before that is refused.
 abbrev pub noSamples : ℕ → Command

@@ -3,8 +3,10 @@ use crate::choice::freeing_command;
 use crate::choice::oldest_closed;
 use crate::choice::records_of;
 use crate::samples::is_over_quota;
+use crate::samples::place_of;
 use crate::samples::sample_command;
 use crate::serving::serve_words;
+use lent_domains::domain_at;
 use model::Answer;
 use model::Command;
 use model::Table;
@@ -41,8 +43,9 @@ pub fn append_in(
 ) -> Answer
     ensures { λ r. ⌜ ServesFor (now (table .entry)) (append domain sample) (now (store .entry)) (now (words .entry)) [] (served (answering (now (table .exit)) r) (now (store .exit)) (now (words .exit)) []) ⌝ }
 {
-    let domains = table.domains;
-    let command = sample_command(domains, domain, sample);
+    let place = place_of(domain);
+    let owner = domain_at(&table.domains, place);
+    let command = sample_command(owner, domain, sample);
     let answer = serve_words(table, command, store, words);
     if is_over_quota(answer) {
         return write_again(table, domain, command, store, words);

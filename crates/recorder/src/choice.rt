@@ -12,18 +12,18 @@ ghost use Rattle.recorder.specs.Choice.{foundIn, olderOf};
 // The oldest block so far, by its number and its serial. Where there is none, they are a number that no drive has and a
 // serial above those of all blocks. It is no enum: the gap beside an enum's tag is copied through memory for every
 // block.
-pub(crate) struct Found {
+pub(crate) struct Oldest {
     number: u64,
     serial: u64,
 }
 
 // Block n, or the one found before it.
-fn older(found: Found, n: u64, block: Block, domain: u64) -> Found
+fn older(found: Oldest, n: u64, block: Block, domain: u64) -> Oldest
     ensures { λ r. ⌜ r ≡ olderOf found n block domain ⌝ }
 {
     let serial = block.serial as u64;
     if is_held(block, domain) & is_closed(block) & (serial < found.serial) {
-        Found { number: n, serial }
+        Oldest { number: n, serial }
     } else {
         found
     }
@@ -37,10 +37,10 @@ pub(crate) fn records_of(blocks: u64) -> usize
 }
 
 // The oldest Closed block of a domain, in lent records.
-pub(crate) fn oldest_closed(blocks: &[Block], domain: u64) -> Found
+pub(crate) fn oldest_closed(blocks: &[Block], domain: u64) -> Oldest
     ensures { λ r. ⌜ r ≡ foundIn (now (blocks .entry)) domain (length (now (blocks .entry))) ⌝ }
 {
-    let mut found = Found {
+    let mut found = Oldest {
         number: 18446744073709551615,
         serial: 18446744073709551615,
     };
@@ -54,7 +54,7 @@ pub(crate) fn oldest_closed(blocks: &[Block], domain: u64) -> Found
 }
 
 // Free of the block that was found.
-pub(crate) fn freeing_command(found: Found, domain: u64) -> Command
+pub(crate) fn freeing_command(found: Oldest, domain: u64) -> Command
     ensures { λ r. ⌜ r ≡ Free domain (found .number) ⌝ }
 {
     Command::Free {

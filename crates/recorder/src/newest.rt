@@ -1,11 +1,10 @@
 // The last entries of what a domain keeps.
 use model::Block;
-use model::Table;
 use tables::is_held;
 ghost use mathlib.Core.Path.{_≡_};
 ghost use Prim.Native.Nat.{_+_, _*_, _%_, _≤_, _<_, min};
 ghost use lib.ListN.{drop, getD, length, take};
-ghost use Rattle.rules.specs.Drive.{overwritten, size};
+ghost use Rattle.rules.specs.Drive.{overwritten};
 ghost use Rattle.rules.specs.Recorder.{lastOf};
 ghost use Rattle.recorder.specs.Newest.{FewWritten, Gathers, Notes, PutsBlock, Within, partsOf};
 
@@ -24,8 +23,7 @@ fn noted(
     keys: &mut [u64],
     written: &mut [u64],
 ) -> Gathered
-    requires { ⌜ (n < 256) × (found .keys < 256) × (length (now keys) ≡ 256) × (length (now written) ≡ 256) ⌝ }
-    requires { ⌜ (block .written .0 ≤ 1048576) × (found .adus ≤ 268435456) ⌝ }
+    requires { ⌜ (n < 256) × (found .keys < 256) × (length (now keys) ≡ 256) × (length (now written) ≡ 256) × (block .written .0 ≤ 1048576) × (found .adus ≤ 268435456) ⌝ }
     ensures { λ r. ⌜ Notes found n block domain (now (keys .entry)) (now (written .entry)) r (now (keys .exit)) (now (written .exit)) ⌝ }
 {
     if is_held(block, domain) {
@@ -41,16 +39,22 @@ fn noted(
     found
 }
 
-// One pass over the blocks: a key for each that the domain holds, and how many of its ADUs are written.
-pub(crate) fn gather(table: Table, domain: u64, keys: &mut [u64], written: &mut [u64]) -> Gathered
-    requires { ⌜ (size table ≤ 256) × FewWritten table × (length (now keys) ≡ 256) × (length (now written) ≡ 256) ⌝ }
-    ensures { λ r. ⌜ Gathers table domain (size table) (now (keys .entry)) (now (written .entry)) r (now (keys .exit)) (now (written .exit)) ⌝ }
+// One pass over lent records: a key for each block that the domain holds, and how many of its ADUs are written.
+pub(crate) fn gather(
+    blocks: &[Block],
+    domain: u64,
+    keys: &mut [u64],
+    written: &mut [u64],
+) -> Gathered
+    requires { ⌜ (length (now blocks) ≤ 256) × FewWritten (now blocks) × (length (now keys) ≡ 256) × (length (now written) ≡ 256) ⌝ }
+    ensures { λ r. ⌜ Gathers (now (blocks .entry)) domain (length (now (blocks .entry))) (now (keys .entry)) (now (written .entry)) r (now (keys .exit)) (now (written .exit)) ⌝ }
 {
-    let blocks = table.config.blocks as usize;
     let mut found = Gathered { keys: 0, adus: 0 };
-    for n in 0..blocks {
-        let block = table.blocks[n];
+    let mut n = 0;
+    while n < blocks.len() {
+        let block = blocks[n];
         found = noted(found, n, block, domain, keys, written);
+        n += 1;
     }
     found
 }

@@ -1,7 +1,8 @@
 // The last samples.
+use crate::choice::records_of;
+use crate::newest::Gathered;
 use crate::newest::fill;
 use crate::newest::gather;
-use crate::samples::domain_of;
 use crate::samples::is_out_of_range;
 use crate::samples::may_read;
 use crate::samples::no_samples;
@@ -9,7 +10,9 @@ use crate::serving::serve_words;
 use geometry::Adus;
 use geometry::Config;
 use geometry::adus_per_block;
+use lent_domains::domain_at;
 use model::Answer;
+use model::Domain;
 use model::Refusal;
 use model::Table;
 use sorting::sort;
@@ -24,8 +27,8 @@ ghost use Rattle.rules.specs.Recorder.{lastOf};
 ghost use Rattle.sorting.specs.Order.{inOrder};
 ghost use Rattle.rules.specs.Calls.{latest};
 ghost use Rattle.tables.specs.Serving.{ServesFor, answering, served};
-ghost use Rattle.recorder.specs.Newest.{FillsFrom, partsOf};
-ghost use Rattle.recorder.specs.Steps.{FillsLatest, Given, Readable};
+ghost use Rattle.recorder.specs.Newest.{Fillable, FillsFrom, gatheredParts, partsOf};
+ghost use Rattle.recorder.specs.Steps.{FillsLatest, Gives};
 
 // Puts the keys in order, and fills in the last so many of the ADUs of their blocks.
 fn fill_ordered(
@@ -45,35 +48,46 @@ fn fill_ordered(
     fill(keys, written, capacity, count.0 as usize, store, words);
 }
 
-// 15; then the last so many of the ADUs that the domain keeps, oldest first.
-fn fill_latest(table: Table, domain: u64, count: Adus, store: &[u64], words: &mut [u64]) -> Answer
-    requires { ⌜ Readable table domain (now store) × (count .0 ≤ length (now words)) ⌝ }
-    ensures { λ r. ⌜ FillsLatest table domain count (now (store .entry)) (now (words .entry)) r (now (words .exit)) ⌝ }
+// 15; then the last so many of the ADUs that were gathered, oldest first.
+fn fill_latest(
+    config: Config,
+    found: Gathered,
+    keys: &mut [u64],
+    written: &[u64],
+    count: Adus,
+    store: &[u64],
+    words: &mut [u64],
+) -> Answer
+    requires { ⌜ Fillable config found (now keys) (now written) (now store) × (count .0 ≤ length (now words)) ⌝ }
+    ensures { λ r. ⌜ FillsLatest (gatheredParts config found (now (keys .entry)) (now (written .entry)) (now (store .entry))) count (now (words .entry)) r (now (words .exit)) ⌝ }
 {
-    let mut keys: [u64; 256] = [0; 256];
-    let mut written: [u64; 256] = [0; 256];
-    let found = gather(table, domain, &mut keys, &mut written);
     if found.adus < count.0 {
         return Answer::Refused(Refusal::Extent);
     }
     let end = found.keys;
-    let config = table.config;
-    fill_ordered(&mut keys[..end], &written, config, count, store, words);
+    fill_ordered(&mut keys[..end], written, config, count, store, words);
     Answer::Done
 }
 
-// 6 and 7, and what then is asked and filled in.
-fn give_latest(table: Table, domain: u64, count: Adus, store: &[u64], words: &mut [u64]) -> Answer
-    requires { ⌜ Readable table domain (now store) ⌝ }
-    ensures { λ r. ⌜ Given table domain count (now (store .entry)) (now (words .entry)) r (now (words .exit)) ⌝ }
+// 6 and 7 for a domain with this record, and what then is asked and filled in.
+fn give_latest(
+    config: Config,
+    owner: Domain,
+    found: Gathered,
+    keys: &mut [u64],
+    written: &[u64],
+    count: Adus,
+    store: &[u64],
+    words: &mut [u64],
+) -> Answer
+    requires { ⌜ Fillable config found (now keys) (now written) (now store) ⌝ }
+    ensures { λ r. ⌜ Gives owner (gatheredParts config found (now (keys .entry)) (now (written .entry)) (now (store .entry))) count (now (words .entry)) r (now (words .exit)) ⌝ }
 {
-    let domains = table.domains;
-    let record = domain_of(domains, domain);
-    if may_read(record, count) {
+    if may_read(owner, count) {
         if (words.len() as u64) < count.0 {
             return Answer::Refused(Refusal::Output);
         }
-        return fill_latest(table, domain, count, store, words);
+        return fill_latest(config, found, keys, written, count, store, words);
     }
     Answer::Refused(Refusal::Range)
 }
@@ -92,8 +106,22 @@ pub fn latest_in(
     let asked = no_samples(domain);
     let answer = serve_words(table, asked, store, words);
     if is_out_of_range(answer) {
-        let held = *table;
-        return give_latest(held, domain, count, store, words);
+        let config = table.config;
+        let records = records_of(config.blocks);
+        let mut keys: [u64; 256] = [0; 256];
+        let mut written: [u64; 256] = [0; 256];
+        let found = gather(&table.blocks[..records], domain, &mut keys, &mut written);
+        let owner = domain_at(&table.domains, domain - 1);
+        return give_latest(
+            config,
+            owner,
+            found,
+            &mut keys,
+            &written,
+            count,
+            store,
+            words,
+        );
     }
     answer
 }

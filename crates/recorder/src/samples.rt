@@ -3,13 +3,10 @@ use geometry::Adus;
 use model::Answer;
 use model::Command;
 use model::Domain;
-use tables::clear_domain;
 use tables::is_count;
 ghost use mathlib.Core.Bool.{_&&_};
 ghost use mathlib.Core.Path.{_≡_};
 ghost use Prim.Native.Nat.{_-_};
-ghost use lib.ListN.{getD};
-ghost use Rattle.rules.specs.Drive.{clearDomain};
 ghost use Rattle.rules.specs.Questions.{isCount};
 ghost use Rattle.rules.specs.Recorder.{hasRecorderShape};
 ghost use Rattle.recorder.specs.Samples.{isOutOfRange, isOverQuota, isRefusedWith};
@@ -29,26 +26,18 @@ pub(crate) fn may_read(domain: Domain, count: Adus) -> bool
     has_recorder_shape(domain) & is_count(count)
 }
 
-// The record of the domain with this ID. The ID 0 has the first, and one above 16 a clear one.
-pub(crate) fn domain_of(domains: [Domain; 16], domain: u64) -> Domain
-    ensures { λ r. ⌜ r ≡ getD domains (domain - 1) clearDomain ⌝ }
+// Where the domain with this ID has its record, counted from 0. The ID 0 has the first.
+pub(crate) fn place_of(domain: u64) -> u64
+    ensures { λ r. ⌜ r ≡ domain - 1 ⌝ }
 {
-    if domain == 0 {
-        return domains[0];
-    }
-    if domain <= 16 {
-        let at = (domain - 1) as usize;
-        return domains[at];
-    }
-    clear_domain()
+    if domain == 0 { 0 } else { domain - 1 }
 }
 
-// The write of one sample; of none, if the domain cannot record.
-pub(crate) fn sample_command(domains: [Domain; 16], domain: u64, sample: u64) -> Command
-    ensures { λ r. ⌜ r ≡ sampleCommand domains domain sample ⌝ }
+// The write of one sample, for a domain with this record; of none, if it cannot record.
+pub(crate) fn sample_command(owner: Domain, domain: u64, sample: u64) -> Command
+    ensures { λ r. ⌜ r ≡ sampleCommand owner domain sample ⌝ }
 {
-    let found = domain_of(domains, domain);
-    if has_recorder_shape(found) {
+    if has_recorder_shape(owner) {
         return Command::WriteByPlacement {
             domain,
             placement: 0,

@@ -109,9 +109,9 @@ tableWith bs d r t = record {
 }
 
 -- A table with a command's change made in it.
-abbrev pub changedBy : Change → Table → Table
-changedBy change t = tableWith (changedBlocks change (take (presentBlocks (t .config)) (t .blocks))) (change .domain) (change .owner) t
+abbrev pub changedTable : Change → Table → Table
+changedTable change t = tableWith (changedBlocks change (take (presentBlocks (t .config)) (t .blocks))) (change .domain) (change .owner) t
 
 -- What a command that changes the table so hands back.
 abbrev pub outcomeServed : Table → Outcome → Served
-outcomeServed t r = answering (changedBy (r .change) t) (r .answer)
+outcomeServed t r = answering (changedTable (r .change) t) (r .answer)

@@ -28,7 +28,7 @@ pub struct Outcome {
 }
 
 // No block has this number.
-const NO_BLOCK: u64 = 0xffff_ffff;
+pub const NO_BLOCK: u64 = 0xffff_ffff;
 
 fn nothing() -> Change
     ensures { λ r. ⌜ r ≡ noChange ⌝ }

@@ -12,6 +12,7 @@ mod served;
 pub use arguments::ends_within;
 pub use arguments::is_count;
 pub use change::Change;
+pub use change::NO_BLOCK;
 pub use change::Outcome;
 pub use change::block_change;
 pub use change::deletion;

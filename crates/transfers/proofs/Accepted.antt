@@ -29,10 +29,10 @@ use Rattle.rules.specs.Calls.{calling}
 use Rattle.rules.specs.Drive.{Drive, overwritten, size, withBlock}
 use Rattle.rules.specs.Effects.{Serves, effect}
 use Rattle.rules.specs.Questions.{isCount, laterQuestions, userAddressesFit}
-use Rattle.survey.proofs.Outcomes.{begun-yes}
-use Rattle.survey.proofs.Seeing.{changed-block, sound-limits}
-use Rattle.survey.specs.First.{Begins}
-use Rattle.survey.specs.declared.sight.Sight.{Sight}
+use Rattle.scan.proofs.Outcomes.{begun-yes}
+use Rattle.scan.proofs.Seeing.{changed-block, sound-limits}
+use Rattle.scan.specs.First.{Begins}
+use Rattle.scan.specs.declared.summary.Summary.{Summary}
 use Rattle.tables.proofs.Answering.{accepted-call, then-refused, then-verdict}
 use Rattle.tables.proofs.Refusals.{refusal-positive}
 use Rattle.tables.specs.Changing.{blockChange, outcomeServed}
@@ -42,30 +42,29 @@ use Rattle.transfers.specs.Transfers.{MayWriteIn, ReadsStretch, Wrote, r
 -- ---- Write by block
 
 -- A write whose questions are answered yes may be done, ..
-pub may-write : (x : Sight) (entries room d n start : ℕ) (count : Adus) → withinLimits (x .config) ≡ true → isDomainId d ≡ true
-    → entries ≡ storeLength (x .config) .0 → firstNo (writeArguments x room n count ++ writeState x d start count) ≡ 0
-    → MayWriteIn (x .config) entries d n (x .block) (count .0)
+pub may-write : (x : Summary) (words d n start : ℕ) (count : Adus) → withinLimits (x .config) ≡ true → isDomainId d ≡ true
+    → firstNo (writeArguments x words n count ++ writeState x d start count) ≡ 0
+    → MayWriteIn (x .config) d n (x .block) (count .0)
 unfolding positive writeArguments writeState
-may-write x entries room d n start count within known all e =
-    let qs = writeArguments x room n count ++ writeState x d start count in
+may-write x words d n start count within known e =
+    let qs = writeArguments x words n count ++ writeState x d start count in
     let range = both (isBlock (x .config) n) (isCount count) (yes-in 6 qs refl e) in
     record {
       limits = within;
       id = known;
       inside = ltb-true n (x .config .blocks) (range .0);
-      entries = all;
       some-written = is-between 1 256 (count .0) (range .1) .least;
       fits = leb-true (x .block .written .0 + count .0) (adusPerBlock (x .config) .0) (yes-in 15 qs refl e);
     }
 
--- .. its user addresses can be told, and there is room for its words.
-pub write-fits : (x : Sight) (room d n start : ℕ) (count : Adus)
-    → firstNo (writeArguments x room n count ++ writeState x d start count) ≡ 0
-    → (userAddressesFit start (count .0) ≡ true) × (count .0 ≤ room)
+-- .. its user addresses can be told, and there are words enough.
+pub write-fits : (x : Summary) (words d n start : ℕ) (count : Adus)
+    → firstNo (writeArguments x words n count ++ writeState x d start count) ≡ 0
+    → (userAddressesFit start (count .0) ≡ true) × (count .0 ≤ words)
 unfolding positive writeArguments writeState
-write-fits x room d n start count e =
-    let qs = writeArguments x room n count ++ writeState x d start count in
-    (yes-in 8 qs refl e, leb-true (count .0) room (yes-in 7 qs refl e))
+write-fits x words d n start count e =
+    let qs = writeArguments x words n count ++ writeState x d start count in
+    (yes-in 8 qs refl e, leb-true (count .0) words (yes-in 7 qs refl e))
 
 -- The block's new record and what was put into the store and the words are what it hands back.
 pub write-done : (t : Table) (store words bytes : List ℕ) (d n start : ℕ) (count : Adus) (b : Block) (left filled : List ℕ)
@@ -86,21 +85,21 @@ write-done t store words bytes d n start count b left filled first l e wrote =
 -- ---- Read
 
 -- What a Read may count on before it looks at the store.
-pub record MayRead (c : Config) (length room : ℕ) (a : FlashAddress) (count expected : ℕ) : Type 0 where
+pub record MayRead (c : Config) (length words : ℕ) (a : FlashAddress) (count expected : ℕ) : Type 0 where
   pub limits : withinLimits c ≡ true
   pub inside : a .block < c .blocks
   pub entries : length ≡ storeLength c .0
   pub extent : a .offset .0 + count ≤ adusPerBlock c .0
-  pub words : count ≤ room
+  pub enough : count ≤ words
   pub fits : userAddressesFit expected count ≡ true
 
 -- Where every question but the last is answered yes, it may.
-pub may-read : (x : Sight) (entries room d : ℕ) (a : FlashAddress) (count : Adus) (expected : ℕ) → withinLimits (x .config) ≡ true
-    → entries ≡ storeLength (x .config) .0 → firstNo (readArguments x room a count ++ readState x d a count expected) ≡ 0
-    → MayRead (x .config) entries room a (count .0) expected
+pub may-read : (x : Summary) (entries words d : ℕ) (a : FlashAddress) (count : Adus) (expected : ℕ) → withinLimits (x .config) ≡ true
+    → entries ≡ storeLength (x .config) .0 → firstNo (readArguments x words a count ++ readState x d a count expected) ≡ 0
+    → MayRead (x .config) entries words a (count .0) expected
 unfolding positive readArguments readState
-may-read x entries room d a count expected within all e =
-    let qs = readArguments x room a count ++ readState x d a count expected in
+may-read x entries words d a count expected within all e =
+    let qs = readArguments x words a count ++ readState x d a count expected in
     let range = both (isBlock (x .config) (a .block) && isOffset (x .config) (a .offset)) (isCount count) (yes-in 6 qs refl e) in
     let end = a .offset .0 + count .0 in
     record {
@@ -108,7 +107,7 @@ may-read x entries room d a count expected within all e =
       inside = ltb-true (a .block) (x .config .blocks) (both (isBlock (x .config) (a .block)) (isOffset (x .config) (a .offset)) (range .0) .0);
       entries = all;
       extent = leb-true end (adusPerBlock (x .config) .0) (both (leb end (x .block .written .0)) (leb end (adusPerBlock (x .config) .0)) (yes-in 15 qs refl e) .1);
-      words = leb-true (count .0) room (yes-in 7 qs refl e);
+      enough = leb-true (count .0) words (yes-in 7 qs refl e);
       fits = yes-in 8 qs refl e;
     }
 

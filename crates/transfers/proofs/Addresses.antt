@@ -14,6 +14,7 @@ use Rattle.geometry.proofs.Laws.Shape.{by-test, is-between, limits}
 use Rattle.geometry.specs.Address.{offsetBits, wordOf}
 use Rattle.geometry.specs.Answers.{addressQuestions, numberOf, wordAnswer}
 use Rattle.geometry.specs.Questions.{Outcome, firstNo, refusal, success}
+use Rattle.geometry.specs.Shape.{adus}
 use Rattle.geometry.specs.declared.address.FlashAddress.{FlashAddress}
 use Rattle.geometry.specs.declared.address.Refusal.{Refusal}
 use Rattle.geometry.specs.declared.address.Refusal.the-variants.{DomainId, Limits, Output, Range}
@@ -22,8 +23,7 @@ use Rattle.buffers.proofs.UserAddresses.{ones-address, plain-address}
 use Rattle.transfers.specs.Transfers.{MayWriteIn, addressIn}
 use Rattle.buffers.specs.Rows.{entryAt}
 use Rattle.model.specs.declared.block.Block.{Block}
-use Rattle.model.specs.declared.table.Table.{Table}
-use Rattle.rules.specs.Blocks.{allOnes, flashAddress, userAddress, userAddresses}
+use Rattle.rules.specs.Blocks.{allOnes, userAddress, userAddresses}
 use Rattle.rules.specs.Counting.{rowTo}
 
 -- Rows of the same entries are the same.
@@ -44,17 +44,17 @@ users-row start count =
 
 -- ---- Flash addresses
 
--- That of a later ADU is as much higher.
-flash-later : (t : Table) (d n offset i : ℕ) → flashAddress t d n (offset + i) ≡ flashAddress t d n offset + i
+-- That of a later ADU is as much higher, ..
+word-later : (c : Config) (d n offset i : ℕ) → wordOf c (addressIn d n (adus (offset + i))) ≡ wordOf c (addressIn d n (adus offset)) + i
 unfolding wordOf
-flash-later t d n offset i = sym (add-assoc (d * 2 ^ 48 + n * 2 ^ offsetBits (t .config)) offset i)
+word-later c d n offset i = sym (add-assoc (d * 2 ^ 48 + n * 2 ^ offsetBits c) offset i)
 
--- So they rise by one from the first.
-pub words-row : (t : Table) (d n offset count : ℕ)
-    → rowTo (entryAt (flashAddress t d n offset) true) count ≡ rowTo (λ i. flashAddress t d n (offset + i)) count
-words-row t d n offset count =
-    row-each count (entryAt (flashAddress t d n offset) true) (λ i. flashAddress t d n (offset + i))
-    (λ i. sym (flash-later t d n offset i))
+-- .. so that they rise by one from the first.
+pub words-row : (c : Config) (d n offset count : ℕ)
+    → rowTo (entryAt (wordOf c (addressIn d n (adus offset))) true) count ≡ rowTo (λ i. wordOf c (addressIn d n (adus (offset + i)))) count
+words-row c d n offset count =
+    row-each count (entryAt (wordOf c (addressIn d n (adus offset))) true) (λ i. wordOf c (addressIn d n (adus (offset + i))))
+    (λ i. sym (word-later c d n offset i))
 
 -- A word of the drive is far below 2 ^ 64.
 word-low : (c : Config) (a : FlashAddress) → Addressed c a → wordOf c a ≤ 5000000000000000
@@ -85,9 +85,9 @@ word-refused c a r e h =
     omega (arith, positive-number r, none)
 
 -- The first ADU that is written has an address of the drive.
-pub first-addressed : (c : Config) (length d n : ℕ) (b : Block) (count : ℕ) → MayWriteIn c length d n b count
+pub first-addressed : (c : Config) (d n : ℕ) (b : Block) (count : ℕ) → MayWriteIn c d n b count
     → Addressed c (addressIn d n (b .written))
-first-addressed c length d n b count may = record {
+first-addressed c d n b count may = record {
   limits = may .limits;
   domain = is-between 1 16 d (may .id);
   block = may .inside;
@@ -95,12 +95,12 @@ first-addressed c length d n b count may = record {
 }
 
 -- And as many words from it on as are written stay below 2 ^ 64.
-pub words-low : (c : Config) (length d n : ℕ) (b : Block) (count : ℕ) → MayWriteIn c length d n b count
+pub words-low : (c : Config) (d n : ℕ) (b : Block) (count : ℕ) → MayWriteIn c d n b count
     → wordOf c (addressIn d n (b .written)) + count ≤ 18446744073709551616
-words-low c length d n b count may =
+words-low c d n b count may =
     omega (
       arith,
-      word-low c (addressIn d n (b .written)) (first-addressed c length d n b count may),
+      word-low c (addressIn d n (b .written)) (first-addressed c d n b count may),
       may .fits,
       limits c (may .limits) .adus .most,
     )

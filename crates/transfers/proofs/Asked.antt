@@ -20,18 +20,18 @@ use Rattle.rules.specs.Calls.{lending}
 use Rattle.rules.specs.Drive.{blockAt, size}
 use Rattle.rules.specs.Questions.{laterQuestions}
 use Rattle.rules.specs.Soundness.{sound}
-use Rattle.survey.specs.Sight.{Sees, SeesBlock}
-use Rattle.survey.specs.declared.sight.Sight.{Sight}
+use Rattle.scan.specs.Summary.{Sees, SeesBlock}
+use Rattle.scan.specs.declared.summary.Summary.{Summary}
 use Rattle.tables.specs.Serving.{drive}
 use Rattle.transfers.specs.Transfers.{readArguments, readState, writeArguments, writeState}
 
 -- The record that is seen is that of a block of the drive; of another number the range is asked first.
-pub write-asked : (t : Table) (store : List ℕ) (entries room bytes d n start : ℕ) (count : Adus) (x : Sight)
+pub write-asked : (t : Table) (store : List ℕ) (entries words bytes d n start : ℕ) (count : Adus) (x : Summary)
     → Sees t d x → SeesBlock t n x → x .sound ≡ true
-    → firstNo (writeArguments x room n count ++ writeState x d start count)
-    ≡ firstNo (laterQuestions (WriteByBlock d n start count) (drive t store) (lending (WriteByBlock d n start count) entries room bytes))
+    → firstNo (writeArguments x words n count ++ writeState x d start count)
+    ≡ firstNo (laterQuestions (WriteByBlock d n start count) (drive t store) (lending (WriteByBlock d n start count) entries words bytes))
 unfolding firstNo writeArguments writeState
-write-asked t store entries room bytes d n start count x s b e =
+write-asked t store entries words bytes d n start count x s b e =
     rw (s .same-config) (by-test (isBlock (t .config) n)
     (λ q. rw (b .same-block e (ltb-true n (size t) q)))
     (λ q. rw q))
@@ -45,12 +45,12 @@ ends-inside t store n end whole l =
     (λ q. rw (q, le-leb end (adusPerBlock (t .config) .0) (omega (arith, most, leb-true end (blockAt t n .written .0) q))))
     (λ q. rw q)
 
-pub read-asked : (t : Table) (store : List ℕ) (entries room bytes d address : ℕ) (count : Adus) (expected : ℕ) (x : Sight)
+pub read-asked : (t : Table) (store : List ℕ) (entries words bytes d address : ℕ) (count : Adus) (expected : ℕ) (x : Summary)
     → Sees t d x → SeesBlock t (fieldsOf (t .config) address .block) x → x .sound ≡ true
-    → firstNo (readArguments x room (fieldsOf (t .config) address) count ++ readState x d (fieldsOf (t .config) address) count expected)
-    ≡ firstNo (before 16 (laterQuestions (Read d address count expected) (drive t store) (lending (Read d address count expected) entries room bytes)))
+    → firstNo (readArguments x words (fieldsOf (t .config) address) count ++ readState x d (fieldsOf (t .config) address) count expected)
+    ≡ firstNo (before 16 (laterQuestions (Read d address count expected) (drive t store) (lending (Read d address count expected) entries words bytes)))
 unfolding firstNo readArguments readState
-read-asked t store entries room bytes d address count expected x s b e =
+read-asked t store entries words bytes d address count expected x s b e =
     let a = fieldsOf (t .config) address in
     rw (s .same-config) (by-test (isBlock (t .config) (a .block))
     (λ q. let l = ltb-true (a .block) (size t) q in

@@ -2,3 +2,4 @@
 pub mod Addresses
 pub mod Asked
 pub mod Accepted
+pub mod Written

@@ -9,7 +9,7 @@ use geometry::stretch_start;
 use geometry::word_fields;
 use model::Answer;
 use model::Refusal;
-use survey::Sight;
+use scan::Summary;
 use tables::Verdict;
 use tables::ask;
 use tables::ends_within;
@@ -26,37 +26,37 @@ ghost use Rattle.geometry.specs.Shape.{withinLimits};
 ghost use Rattle.model.specs.declared.command.Command.the-variants.{Read};
 ghost use Rattle.model.specs.declared.table.Table.{Table};
 ghost use Rattle.rules.specs.Questions.{isCount, userAddressesFit};
-ghost use Rattle.survey.specs.First.{Begun};
-ghost use Rattle.survey.specs.Sight.{Seen, Sees, SeesBlock};
+ghost use Rattle.scan.specs.First.{FirstPassed};
+ghost use Rattle.scan.specs.Summary.{Seen, Sees, SeesBlock};
 ghost use Rattle.tables.specs.Serving.{ServesCommand, answering, served};
 ghost use Rattle.tables.specs.Verdicts.{verdictNumber};
 ghost use Rattle.transfers.specs.Transfers.{ReadsStretch, readArguments, readState};
 
 // 6 and 7.
-fn read_arguments(sight: Sight, address: FlashAddress, count: Adus, room: usize) -> Verdict
-    requires { ⌜ withinLimits (sight .config) ≡ true ⌝ }
-    ensures { λ r. ⌜ verdictNumber r ≡ firstNo (readArguments sight room address count) ⌝ }
+fn read_arguments(summary: Summary, address: FlashAddress, count: Adus, words: usize) -> Verdict
+    requires { ⌜ withinLimits (summary .config) ≡ true ⌝ }
+    ensures { λ r. ⌜ verdictNumber r ≡ firstNo (readArguments summary words address count) ⌝ }
 {
-    let config = sight.config;
+    let config = summary.config;
     let offset = address.offset;
     let inside = (address.block < config.blocks) & (offset.0 < adus_per_block(config).0);
-    ask(inside & is_count(count), Refusal::Range).and(count.0 <= room as u64, Refusal::Output)
+    ask(inside & is_count(count), Refusal::Range).and(count.0 <= words as u64, Refusal::Output)
 }
 
 // 8 to 15. What is read ends within what is written, and within the block.
 fn read_state(
-    sight: Sight,
+    summary: Summary,
     domain: u64,
     address: FlashAddress,
     count: Adus,
     expected: u64,
 ) -> Verdict
-    requires { ⌜ withinLimits (sight .config) ≡ true ⌝ }
+    requires { ⌜ withinLimits (summary .config) ≡ true ⌝ }
     requires { ⌜ isCount count ≡ true ⌝ }
-    ensures { λ r. ⌜ verdictNumber r ≡ firstNo (readState sight domain address count expected) ⌝ }
+    ensures { λ r. ⌜ verdictNumber r ≡ firstNo (readState summary domain address count expected) ⌝ }
 {
-    let config = sight.config;
-    let b = sight.block;
+    let config = summary.config;
+    let b = summary.block;
     let written = b.written;
     let offset = address.offset;
     let capacity = adus_per_block(config);
@@ -67,31 +67,39 @@ fn read_state(
 }
 
 fn read_verdict(
-    sight: Sight,
+    summary: Summary,
     domain: u64,
     address: FlashAddress,
     count: Adus,
     expected: u64,
-    room: usize,
+    words: usize,
 ) -> Verdict
-    requires { ⌜ withinLimits (sight .config) ≡ true ⌝ }
-    ensures { λ r. ⌜ verdictNumber r ≡ firstNo (readArguments sight room address count ++ readState sight domain address count expected) ⌝ }
+    requires { ⌜ withinLimits (summary .config) ≡ true ⌝ }
+    ensures { λ r. ⌜ verdictNumber r ≡ firstNo (readArguments summary words address count ++ readState summary domain address count expected) ⌝ }
 {
-    match read_arguments(sight, address, count, room) {
+    match read_arguments(summary, address, count, words) {
         Verdict::No(reason) => Verdict::No(reason),
-        Verdict::Pass => read_state(sight, domain, address, count, expected),
+        Verdict::Pass => read_state(summary, domain, address, count, expected),
     }
 }
 
-// Question 16 of a stretch of the store, which is then given.
-fn read_stretch(store: &[u64], at: usize, count: usize, expected: u64, words: &mut [u64]) -> Answer
-    requires { ⌜ (at + count ≤ length (now store)) × (count ≤ length (now words)) ⌝ }
-    requires { ⌜ userAddressesFit expected count ≡ true ⌝ }
-    ensures { λ r. ⌜ ReadsStretch expected (take count (drop at (now (store .entry)))) (now (words .entry)) r (now (words .exit)) ⌝ }
+// Question 16 of so many entries of a block's stretch from an offset on, which are then given.
+fn read_stretch(
+    stretch: &[u64],
+    offset: Adus,
+    count: Adus,
+    expected: u64,
+    words: &mut [u64],
+) -> Answer
+    requires { ⌜ (offset .0 + count .0 ≤ length (now stretch)) × (count .0 ≤ length (now words)) ⌝ }
+    requires { ⌜ userAddressesFit expected (count .0) ≡ true ⌝ }
+    ensures { λ r. ⌜ ReadsStretch expected (take (count .0) (drop (offset .0) (now (stretch .entry)))) (now (words .entry)) r (now (words .exit)) ⌝ }
 {
-    let end = at + count;
-    if all_match(&store[at..end], expected) {
-        put_stretch(words, store, at, count);
+    let at = offset.0 as usize;
+    let end = at + count.0 as usize;
+    let part = &stretch[at..end];
+    if all_match(part, expected) {
+        put_stretch(words, part);
         return Answer::Done;
     }
     Answer::Refused(Refusal::Mismatch)
@@ -99,7 +107,7 @@ fn read_stretch(store: &[u64], at: usize, count: usize, expected: u64, words: &m
 
 // The stored user addresses from a flash address on, if they are the expected ones.
 pub fn read(
-    sight: Sight,
+    summary: Summary,
     domain: u64,
     address: u64,
     count: Adus,
@@ -107,18 +115,18 @@ pub fn read(
     store: &[u64],
     words: &mut [u64],
 ) -> Answer
-    requires { ⌜ Seen domain sight × Begun (Read domain address count expected) (length (now store)) sight ⌝ }
-    ensures { λ r. ⌜ ((t : Table) (bytes : List ℕ) → Sees t domain sight → SeesBlock t (fieldsOf (t .config) address .block) sight → ServesCommand t (Read domain address count expected) (now (store .entry)) (now (words .entry)) bytes (served (answering t r) (now (store .entry)) (now (words .exit)) bytes)) ⌝ }
+    requires { ⌜ Seen domain summary × FirstPassed (Read domain address count expected) (length (now store)) summary ⌝ }
+    ensures { λ r. ⌜ ((t : Table) (bytes : List ℕ) → Sees t domain summary → SeesBlock t (fieldsOf (t .config) address .block) summary → ServesCommand t (Read domain address count expected) (now (store .entry)) (now (words .entry)) bytes (served (answering t r) (now (store .entry)) (now (words .exit)) bytes)) ⌝ }
 {
-    let config = sight.config;
+    let config = summary.config;
     let a = word_fields(config, address);
-    match read_verdict(sight, domain, a, count, expected, words.len()) {
+    match read_verdict(summary, domain, a, count, expected, words.len()) {
         Verdict::No(reason) => Answer::Refused(reason),
         Verdict::Pass => {
             let offset = a.offset;
-            let stretch = stretch_start(config, a.block);
-            let at = (stretch.0 + offset.0) as usize;
-            read_stretch(store, at, count.0 as usize, expected, words)
+            let first = stretch_start(config, a.block).0 as usize;
+            let end = first + adus_per_block(config).0 as usize;
+            read_stretch(&store[first..end], offset, count, expected, words)
         }
     }
 }

@@ -34,11 +34,11 @@ records-all f l k n all long e = sym (take-all k l (omega arith)) ∙ e ∙ ap (
 
 -- The part from a place to the end, filled in at its front.
 pub fill-behind : (at : ℕ) (new row : List ℕ)
-    → take at row ++ (overwritten 0 (take (length new) new) (take (length row - at) (drop at row)) ++ drop (length row - at) (drop at row))
+    → take at row ++ (overwritten 0 new (take (length row - at) (drop at row)) ++ drop (length row - at) (drop at row))
     ≡ overwritten at new row
 unfolding overwritten
 fill-behind at new row =
-    rw (take-length, ← length-drop at row, take-length (drop at row), drop-length (drop at row))
+    rw (← length-drop at row, take-length (drop at row), drop-length (drop at row))
     (ap (λ (r : List ℕ). take at row ++ r) (append-nil (new ++ drop (length new) (drop at row))))
 
 -- Records one behind the other: at first nothing is filled in.

@@ -157,7 +157,7 @@ fn put_numbers(row: &mut [u64], at: usize, numbers: &[u64])
     requires { ⌜ at + length (now numbers) ≤ length (now row) ⌝ }
     ensures { λ _. ⌜ now (row .exit) ≡ overwritten at (now (numbers .entry)) (now (row .entry)) ⌝ }
 {
-    put_stretch(&mut row[at..], numbers, 0, numbers.len());
+    put_stretch(&mut row[at..], numbers);
 }
 
 fn put_config(row: &mut [u64], config: Config)

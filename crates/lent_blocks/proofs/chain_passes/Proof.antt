@@ -50,11 +50,11 @@ use Rattle.model.specs.declared.block.Block.{Block}
 use Rattle.model.proofs.block.Block as block
 use Rattle.model.proofs.block.Block.Laws as block-laws
 use Rattle.rules.specs.Drive.{clearBlock}
-use Rattle.survey.specs.Marks.{chainDiffers, markCount, sameSerial}
-use Rattle.survey.specs.Scan.{chainPasses}
-use Rattle.survey.proofs.chain_before.Met as step-met
-use Rattle.survey.proofs.not_sound.Met as test-met
-use Rattle.survey.proofs.same_serial.Met as compare-met
+use Rattle.scan.specs.Marks.{chainDiffers, markCount, sameSerial}
+use Rattle.scan.specs.Scan.{chainPasses}
+use Rattle.scan.proofs.chain_before.Met as step-met
+use Rattle.scan.proofs.not_sound.Met as test-met
+use Rattle.scan.proofs.same_serial.Met as compare-met
 use Rattle.lent_blocks.proofs.Bodies.{behind}
 use Rattle.lent_blocks.proofs.Chains.{chain-ends, chain-other, chain-past, chain-same, passes-none, passes-on}
 use Rattle.lent_blocks.proofs.Looking.{Looked, record-back, record-out}
@@ -376,9 +376,9 @@ chain-passes-spec 𝓤 H 𝓜 𝓖 𝓡 =
     entered 𝓤 H (tripleOf 𝓤 H (𝓖 .A) walk.signature (walk.spec 𝓤 H (𝓖 .A) (𝓜 .mem) (𝓡 .run)))
     (tables 𝓤 H 𝓜 𝓡 code.env .C) (tables 𝓤 H 𝓜 𝓡 code.env .Λ) name code.function (code.unfolded 𝓤 H 𝓜 𝓡)
     (meets 𝓤 H (𝓖 .A) W (𝓜 .mem) (𝓡 .run) (tablesOf 𝓤 H 𝓜 (tables 𝓤 H 𝓜 𝓡 code.env))
-    (cited 𝓤 H (NotSound 𝓤 H (𝓖 .A) W (𝓜 .mem) (𝓡 .run)) 𝓜 𝓡 code.env test-name test-routine code.calls-survey·not-sound (test-met.met 𝓤 H 𝓜 𝓖 𝓡))
-    (cited 𝓤 H (SameSerial 𝓤 H (𝓖 .A) W (𝓜 .mem) (𝓡 .run)) 𝓜 𝓡 code.env compare-name compare-routine code.calls-survey·same-serial (compare-met.met 𝓤 H 𝓜 𝓖 𝓡))
-    (cited 𝓤 H (ChainBefore 𝓤 H (𝓖 .A) W (𝓜 .mem) (𝓡 .run)) 𝓜 𝓡 code.env step-name step-routine code.calls-survey·chain-before (step-met.met 𝓤 H 𝓜 𝓖 𝓡)))
+    (cited 𝓤 H (NotSound 𝓤 H (𝓖 .A) W (𝓜 .mem) (𝓡 .run)) 𝓜 𝓡 code.env test-name test-routine code.calls-scan·not-sound (test-met.met 𝓤 H 𝓜 𝓖 𝓡))
+    (cited 𝓤 H (SameSerial 𝓤 H (𝓖 .A) W (𝓜 .mem) (𝓡 .run)) 𝓜 𝓡 code.env compare-name compare-routine code.calls-scan·same-serial (compare-met.met 𝓤 H 𝓜 𝓖 𝓡))
+    (cited 𝓤 H (ChainBefore 𝓤 H (𝓖 .A) W (𝓜 .mem) (𝓡 .run)) 𝓜 𝓡 code.env step-name step-routine code.calls-scan·chain-before (step-met.met 𝓤 H 𝓜 𝓖 𝓡)))
   where
     W : Given 𝓤 H (𝓖 .A)
     W = givenOf 𝓤 H 𝓜 𝓖

@@ -51,16 +51,16 @@ use borrow.Table.OneValue.{part-out, part-in}
 use Rattle.model.specs.declared.block.Block.{Block}
 use Rattle.model.proofs.block.Block.{the-row, the-type}
 use Rattle.model.proofs.block.Block.Laws.{mir as block, the-copy, the-laws, the-plain}
-use Rattle.survey.specs.Free.{Chosen, chosenNext, noCandidate}
-use Rattle.survey.specs.declared.free.Candidate.{Candidate}
-use Rattle.survey.proofs.free.Candidate as best
-use Rattle.survey.proofs.free.Candidate.Laws as best-laws
-use Rattle.survey.proofs.choose as choose
-use Rattle.survey.proofs.choose.Met as choose-met
-use Rattle.survey.proofs.choose.Symbol as choose-symbol
-use Rattle.survey.proofs.no_candidate as none
-use Rattle.survey.proofs.no_candidate.Met as none-met
-use Rattle.survey.proofs.no_candidate.Symbol as none-symbol
+use Rattle.scan.specs.Free.{Chosen, chosenNext, noCandidate}
+use Rattle.scan.specs.declared.free.Candidate.{Candidate}
+use Rattle.scan.proofs.free.Candidate as best
+use Rattle.scan.proofs.free.Candidate.Laws as best-laws
+use Rattle.scan.proofs.choose as choose
+use Rattle.scan.proofs.choose.Met as choose-met
+use Rattle.scan.proofs.choose.Symbol as choose-symbol
+use Rattle.scan.proofs.no_candidate as none
+use Rattle.scan.proofs.no_candidate.Met as none-met
+use Rattle.scan.proofs.no_candidate.Symbol as none-symbol
 use Rattle.lent_blocks.proofs.choose_free as walk
 use Rattle.lent_blocks.proofs.choose_free.Code as code
 use Rattle.lent_blocks.proofs.choose_free.Code.Mir.{turn-1, t-1, t-4}
@@ -422,7 +422,7 @@ choose-free-spec 𝓤 H 𝓜 𝓖 𝓡 =
     entered 𝓤 H (tripleOf 𝓤 H (𝓖 .A) walk.signature (walk.spec 𝓤 H (𝓖 .A) (𝓜 .mem) (𝓡 .run)))
     (tables 𝓤 H 𝓜 𝓡 code.env .C) (tables 𝓤 H 𝓜 𝓡 code.env .Λ) name code.function (code.unfolded 𝓤 H 𝓜 𝓡)
     (meets 𝓤 H (𝓖 .A) (givenOf 𝓤 H 𝓜 𝓖) (𝓜 .mem) (𝓡 .run) (tablesOf 𝓤 H 𝓜 (tables 𝓤 H 𝓜 𝓡 code.env))
-    (cited 𝓤 H (None 𝓤 H (𝓖 .A) (givenOf 𝓤 H 𝓜 𝓖) (𝓜 .mem) (𝓡 .run)) 𝓜 𝓡 code.env none-symbol.name none-symbol.routine code.calls-survey·no-candidate
+    (cited 𝓤 H (None 𝓤 H (𝓖 .A) (givenOf 𝓤 H 𝓜 𝓖) (𝓜 .mem) (𝓡 .run)) 𝓜 𝓡 code.env none-symbol.name none-symbol.routine code.calls-scan·no-candidate
     (none-met.met 𝓤 H 𝓜 𝓖 𝓡))
-    (cited 𝓤 H (Chooses 𝓤 H (𝓖 .A) (givenOf 𝓤 H 𝓜 𝓖) (𝓜 .mem) (𝓡 .run)) 𝓜 𝓡 code.env choose-symbol.name choose-symbol.routine code.calls-survey·choose
+    (cited 𝓤 H (Chooses 𝓤 H (𝓖 .A) (givenOf 𝓤 H 𝓜 𝓖) (𝓜 .mem) (𝓡 .run)) 𝓜 𝓡 code.env choose-symbol.name choose-symbol.routine code.calls-scan·choose
     (choose-met.met 𝓤 H 𝓜 𝓖 𝓡)))

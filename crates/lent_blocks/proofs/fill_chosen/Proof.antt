@@ -4,6 +4,7 @@ use native.Mathlib.Omega.{arith}
 use lib.ListN.{set}
 use lib.Seq.{set-out}
 use borrow.Author.Needs.{needs}
+use borrow.Author.Tests.{le-ltb, lt-ltb}
 use Rattle.model.specs.declared.block.Block.{Block}
 use Rattle.placements.specs.Onwards.{OpenedNext, nothingLeft}
 use Rattle.placements.specs.declared.rest.Rest.{Rest}
@@ -12,7 +13,8 @@ use Rattle.lent_blocks.proofs.fill_chosen.Statement.{statement}
 use Rattle.lent_blocks.proofs.fill_chosen.Tie as tie
 
 fill-next-requires : tie.Need-fill-next-requires
-fill-next-requires c κs = search needs
+fill-next-requires c κs = let z = c .before .before .before .before .before .before in let less = c .before .before .if1 .taken in
+    (z .pre .0, (z .pre .1, less, z .pre .2 less))
 
 same-length : tie.Need-same-length
 same-length c = search needs
@@ -26,7 +28,7 @@ returns c =
     let m = c .before .before .before .before .before .before .before .before .before .before .before .pre .0 in
     let less = c .before .before .before .before .before .before .before .if1 .taken in
     let filled = c .before .before .before .before .fill-next in (
-      filled .ensures .0,
+      rw (lt-ltb (a .n) (a .config .blocks) less) (filled .ensures .0),
       λ _. filled .ensures .1,
       λ bs best long walk is here.
           next-opened (a .config) (a .domain) (a .n) (a .rest) (filled .result .rest) bs (a .owner) (filled .result .owner) (filled .result .block) best _ _ _ _ _ _ m long
@@ -43,7 +45,7 @@ returns-2 c =
     let past = c .before .if1 .left in
     let e = c .nothing-left .ensures in
     let none : c .nothing-left .result .count .0 ≡ 0 = ap (λ (r : Rest). r .count .0) e in (
-      omega (arith, none, asked .1),
+      rw (le-ltb (a .n) (a .config .blocks) past) e,
       λ some. absurd (some none),
       λ bs best long walk is here.
           subst (λ (r : Rest). OpenedNext (a .config) (a .domain) (a .rest) bs (a .owner) (a .store .now) (a .words .now) r (set bs (a .n) (a .block)) (a .owner)

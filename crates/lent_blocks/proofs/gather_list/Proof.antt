@@ -57,14 +57,14 @@ use borrow.Table.OneValue.{part-out, part-in}
 use Rattle.model.specs.declared.block.Block.{Block}
 use Rattle.model.proofs.block.Block.{the-row, the-type}
 use Rattle.model.proofs.block.Block.Laws.{mir as block, the-copy, the-laws, the-plain}
-use Rattle.survey.specs.Listing.{listedFrom, listedWith}
-use Rattle.survey.specs.Marks.{markCount}
-use Rattle.survey.specs.declared.scan.Subject.{Subject}
-use Rattle.survey.proofs.scan.Subject as subject
-use Rattle.survey.proofs.scan.Subject.Laws as subject-laws
-use Rattle.survey.proofs.put_listed as put
-use Rattle.survey.proofs.put_listed.Met as put-met
-use Rattle.survey.proofs.put_listed.Symbol as put-symbol
+use Rattle.scan.specs.Listing.{listedFrom, listedWith}
+use Rattle.scan.specs.Marks.{markCount}
+use Rattle.scan.specs.declared.scan.Subject.{Subject}
+use Rattle.scan.proofs.scan.Subject as subject
+use Rattle.scan.proofs.scan.Subject.Laws as subject-laws
+use Rattle.scan.proofs.put_listed as put
+use Rattle.scan.proofs.put_listed.Met as put-met
+use Rattle.scan.proofs.put_listed.Symbol as put-symbol
 use Rattle.lent_blocks.proofs.gather_list as walk
 use Rattle.lent_blocks.proofs.gather_list.Code as code
 use Rattle.lent_blocks.proofs.gather_list.Code.Mir.{turn-1, t-1, t-3}
@@ -503,5 +503,5 @@ gather-list-spec 𝓤 H 𝓜 𝓖 𝓡 =
     entered 𝓤 H (tripleOf 𝓤 H (𝓖 .A) walk.signature (walk.spec 𝓤 H (𝓖 .A) (𝓜 .mem) (𝓡 .run)))
     (tables 𝓤 H 𝓜 𝓡 code.env .C) (tables 𝓤 H 𝓜 𝓡 code.env .Λ) name code.function (code.unfolded 𝓤 H 𝓜 𝓡)
     (meets 𝓤 H (𝓖 .A) (givenOf 𝓤 H 𝓜 𝓖) (𝓜 .mem) (𝓡 .run) (tablesOf 𝓤 H 𝓜 (tables 𝓤 H 𝓜 𝓡 code.env))
-    (cited 𝓤 H (Puts 𝓤 H (𝓖 .A) (𝓜 .mem) (𝓡 .run)) 𝓜 𝓡 code.env put-symbol.name put-symbol.routine code.calls-survey·put-listed
+    (cited 𝓤 H (Puts 𝓤 H (𝓖 .A) (𝓜 .mem) (𝓡 .run)) 𝓜 𝓡 code.env put-symbol.name put-symbol.routine code.calls-scan·put-listed
     (put-met.met 𝓤 H 𝓜 𝓖 𝓡)))

@@ -1,6 +1,7 @@
 -- `open_next` meets its contract: a walk of its code, by hand, since it goes over a lent slice of structs. The blocks are lent on to `choose_free` and to
 -- `block_at`, to be read, and to `put_block`, to be changed; between the two the store and the words are lent to `fill_chosen`. Each is taken back after the call.
 use Prim.Native.Nat.{ℕ, _<_, _≤_, _^_}
+use mathlib.Core.Bool.{true}
 use mathlib.Core.List.{List, [], _∷_, _++_}
 use mathlib.Core.Path.{_≡_, refl, sym, ap, subst}
 use native.Mathlib.Omega.{arith}
@@ -55,12 +56,12 @@ use Rattle.placements.proofs.filling.Filled as filled
 use Rattle.placements.proofs.filling.Filled.Laws as filled-laws
 use Rattle.placements.proofs.rest.Rest as rest
 use Rattle.placements.proofs.rest.Rest.Laws as rest-laws
-use Rattle.rules.specs.Drive.{clearBlock}
-use Rattle.survey.specs.Free.{Chosen, noCandidate}
-use Rattle.survey.specs.declared.free.Candidate.{Candidate}
-use Rattle.survey.proofs.free.Candidate as candidate
-use Rattle.survey.proofs.free.Candidate.Laws as candidate-laws
-use Rattle.lent_blocks.proofs.Opening.{Opens}
+use Rattle.rules.specs.Drive.{clearBlock, isFree}
+use Rattle.scan.specs.Free.{Chosen, noCandidate}
+use Rattle.scan.specs.declared.free.Candidate.{Candidate}
+use Rattle.scan.proofs.free.Candidate as candidate
+use Rattle.scan.proofs.free.Candidate.Laws as candidate-laws
+use Rattle.lent_blocks.proofs.Opening.{Opens, chosen-free}
 use Rattle.lent_blocks.proofs.Passing as passing
 use Rattle.lent_blocks.proofs.Passing.{Back, BothKept, BothLast, BothLent, BothTokens, Loans, Parameters, Tokens, all-go, apart, both-back, both-lent, spelt, stayed, together, told}
 use Rattle.lent_blocks.proofs.Relending.{KeptOf, KeptShared, LentAs, SharedAs, lentAs, share-back, slice-back, slice-lends, slice-shares}
@@ -227,6 +228,9 @@ module _ {M : Type 1} (𝓤 : URA M) (H : Heap 𝓤) (A : Atoms 𝓤) (W : Given
     abbrev Runs : List (Item 𝓤) → Body → Type 1
     Runs Γ t = Sq W Γ (runs (𝓣 .C) (𝓣 .Λ) En t (atRet En Post))
 
+    few : length (bs .now) ≤ 256
+    few = omega (arith, all, limits c (may .within) .ranges .blocks .most)
+
     -- The next block is chosen.
     chooses : ((best : Candidate) → best .number < 2 ^ 64 → Chosen 0 (bs .now) noCandidate best → Runs (AtChosen (best .number)) t-6) → Runs AtStart t-1
     chooses go =
@@ -259,9 +263,6 @@ module _ {M : Type 1} (𝓤 : URA M) (H : Heap 𝓤) (A : Atoms 𝓤) (W : Given
         forget ! 11 refl $ forget ! 16 refl $ forget ! 17 refl $ forget ! 18 refl $
         go best (wide best v is) (subst (λ (us : List Block). Chosen 0 us noCandidate best) (take-length (bs .now)) e))))))
       where
-        few : length (bs .now) ≤ 256
-        few = omega (arith, all, limits c (may .within) .ranges .blocks .most)
-
         wide : (best : Candidate) (v : Val) → Is candidate.the-row best (v ∷ []) → best .number < 2 ^ 64
         wide best v is = owed candidate.the-type candidate-laws.the-laws best (v ∷ []) is .0 .1
 
@@ -288,11 +289,11 @@ module _ {M : Type 1} (𝓤 : URA M) (H : Heap 𝓤) (A : Atoms 𝓤) (W : Given
         go v (subst (λ (y : Block). Is block.the-row y (v ∷ [])) e is))))))
 
     -- What is left goes into it: the store and the words are lent for that, and taken back.
-    fills : (n : ℕ) (z : Block) (zv : Val) → n < 2 ^ 64 → Is block.the-row z (zv ∷ [])
+    fills : (n : ℕ) (z : Block) (zv : Val) → n < 2 ^ 64 → (n < c .blocks → isFree z ≡ true) → Is block.the-row z (zv ∷ [])
         → ((f : Filled) (us vs : List ℕ) → Is filled.the-row f (vals filled.the-type filled-laws.the-laws f) → length us ≡ length (ss .now)
         → length vs ≡ length (ws .now) → FillsChosen c d owner r n z (ss .now) (ws .now) f us vs → Runs (AtFilled n zv f us vs) t-14)
         → Runs (AtRead n zv) t-9
-    fills n z zv fits is-z go =
+    fills n z zv fits free is-z go =
         assigns ! (addr ! (from ! (fld ! refl (hop ! (look-in ! 9 (sub ! 0 refl (whole !))) (stop !))))) (from ! (stop !)) (init ! 21 refl (tt, tt)) $
         assigns ! (agg ! (and-then ! (load ! (from ! (stop !)) (look ! 21 refl))
         (and-then ! (load ! (from ! (fld ! refl (stop !))) (look-in ! 9 (sub ! 1 refl (whole !)))) (no-more !))))
@@ -307,7 +308,7 @@ module _ {M : Type 1} (𝓤 : URA M) (H : Heap 𝓤) (A : Atoms 𝓤) (W : Given
         ⊛ BothKept κ κ′ κ″ q q′ q″ bs ss ws 𝓤 H A W (ss .now) (ws .now) l)))
         (both-lent κ κ′ κ″ q q′ q″ bs ss ws 𝓤 H A W 0 1 (ss .now) (ws .now)) $ await ! tt $ pick ! (λ l. split ! $
         use1 W (raw (FillChosen 𝓤 H A W mem″ run .pre (call-of l))) (fill-may 𝓤 H A W mem″ run c d owner r n z cv ov rv zv (l .0 .0) (l .1 .0)
-        (lentAs u64 κ′ q′ ss (l .0) (ss .now)) (lentAs u64 κ″ q″ ws (l .1) (ws .now)) may some-left fits-d fits is-c is-o is-r is-z) $
+        (lentAs u64 κ′ q′ ss (l .0) (ss .now)) (lentAs u64 κ″ q″ ws (l .1) (ws .now)) may some-left free fits-d fits is-c is-o is-r is-z) $
         calls-at ! (fmOf 𝓤 H (W .laws) 𝓣) (FillChosen 𝓤 H A W mem″ run) known-fill (call-of l)
         (and-then ! (load ! (from ! (stop !)) (look ! 5 refl)) (and-then ! (load ! (from ! (stop !)) (look ! 6 refl))
         (and-then ! (load ! (from ! (stop !)) (look ! 7 refl)) (and-then ! (load ! (from ! (stop !)) (look ! 8 refl))
@@ -371,8 +372,8 @@ module _ {M : Type 1} (𝓤 : URA M) (H : Heap 𝓤) (A : Atoms 𝓤) (W : Given
     -- All of the body.
     all-runs : Runs AtStart t-1
     all-runs = chooses (λ best fits walked-all. looks (best .number) fits (λ zv is-z.
-        fills (best .number) (getD (bs .now) (best .number) clearBlock) zv fits is-z (λ f us vs is long-s long-w e.
-        puts (best .number) zv f us vs fits is long-s long-w (e .0, e .1, e .2 (bs .now) best all walked-all refl refl))))
+        fills (best .number) (getD (bs .now) (best .number) clearBlock) zv fits (λ l. chosen-free (bs .now) best few walked-all (omega (arith, l, all))) is-z
+        (λ f us vs is long-s long-w e. puts (best .number) zv f us vs fits is long-s long-w ((best, walked-all, e .0), e .1, e .2 (bs .now) best all walked-all refl refl))))
 
     -- From the entry: what the parameters own is taken apart.
     starts : Sq W (frames.rooms 𝓤 H localTypes ls ++ (dies ∷ Entry)) (params′ En passed (runs (𝓣 .C) (𝓣 .Λ) En (code.function .body) (atRet En Post)))

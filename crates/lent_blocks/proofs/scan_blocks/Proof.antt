@@ -54,14 +54,14 @@ use Rattle.model.specs.declared.table.Domain.{Domain}
 use Rattle.model.proofs.table.Domain as domain
 use Rattle.model.proofs.table.Domain.Laws as domain-laws
 use Rattle.rules.specs.Drive.{clearBlock, clearDomain}
-use Rattle.survey.specs.Clauses.{domainIndex}
-use Rattle.survey.specs.Marks.{markCount}
-use Rattle.survey.specs.Scan.{Scanned, Walked, chainPasses}
-use Rattle.survey.specs.declared.scan.Subject.{Subject}
-use Rattle.survey.proofs.scan.Subject as subject
-use Rattle.survey.proofs.scan.Subject.Laws as subject-laws
-use Rattle.survey.proofs.holder_index.Met as place-met
-use Rattle.survey.proofs.scan_block.Met as scan-met
+use Rattle.scan.specs.Clauses.{domainIndex}
+use Rattle.scan.specs.Marks.{markCount}
+use Rattle.scan.specs.Scan.{Scanned, Walked, chainPasses}
+use Rattle.scan.specs.declared.scan.Subject.{Subject}
+use Rattle.scan.proofs.scan.Subject as subject
+use Rattle.scan.proofs.scan.Subject.Laws as subject-laws
+use Rattle.scan.proofs.holder_index.Met as place-met
+use Rattle.scan.proofs.scan_block.Met as scan-met
 use Rattle.lent_blocks.proofs.Bodies.{behind}
 use Rattle.lent_blocks.proofs.Chains.{passes-empty}
 use Rattle.lent_blocks.proofs.Looking.{Looked, record-back, record-out}
@@ -451,7 +451,7 @@ module _ {M : Type 1} (𝓤 : URA M) (H : Heap 𝓤) (A : Atoms 𝓤) (W : Given
         over : n ≡ i
         over = omega (arith, f .0)
     turn-at (suc c) i us f = more i us (Below (suc c)) small (f .1)
-        (λ last ws scanned fails. f .2 false ws (walk-stops s (rs .now) (bs .now) i last us ws ws small scanned fails))
+        (λ last ws scanned fails. f .2 false ws (walk-stops s (rs .now) (bs .now) i last us ws small scanned fails))
         (λ last ws long scanned passes.
         qed W (At (i + 1) ws) ∵ show ! (λ (c′ : ℕ). guard 𝓤 (c′ < suc c) (Inv c′)) c $ check ! (omega arith) $ by ! (inv-in c (i + 1) ws (
           omega (arith, f .0),
@@ -534,8 +534,8 @@ scan-blocks-spec 𝓤 H 𝓜 𝓖 𝓡 =
     entered 𝓤 H (tripleOf 𝓤 H (𝓖 .A) walk.signature (walk.spec 𝓤 H (𝓖 .A) (𝓜 .mem) (𝓡 .run)))
     (tables 𝓤 H 𝓜 𝓡 code.env .C) (tables 𝓤 H 𝓜 𝓡 code.env .Λ) name code.function (code.unfolded 𝓤 H 𝓜 𝓡)
     (meets 𝓤 H (𝓖 .A) W (𝓜 .mem) (𝓡 .run) (tablesOf 𝓤 H 𝓜 (tables 𝓤 H 𝓜 𝓡 code.env))
-    (cited 𝓤 H (HolderIndex 𝓤 H (𝓖 .A) W (𝓜 .mem) (𝓡 .run)) 𝓜 𝓡 code.env place-name place-routine code.calls-survey·holder-index (place-met.met 𝓤 H 𝓜 𝓖 𝓡))
-    (cited 𝓤 H (ScanBlock 𝓤 H (𝓖 .A) W (𝓜 .mem) (𝓡 .run)) 𝓜 𝓡 code.env scan-name scan-routine code.calls-survey·scan-block (scan-met.met 𝓤 H 𝓜 𝓖 𝓡))
+    (cited 𝓤 H (HolderIndex 𝓤 H (𝓖 .A) W (𝓜 .mem) (𝓡 .run)) 𝓜 𝓡 code.env place-name place-routine code.calls-scan·holder-index (place-met.met 𝓤 H 𝓜 𝓖 𝓡))
+    (cited 𝓤 H (ScanBlock 𝓤 H (𝓖 .A) W (𝓜 .mem) (𝓡 .run)) 𝓜 𝓡 code.env scan-name scan-routine code.calls-scan·scan-block (scan-met.met 𝓤 H 𝓜 𝓖 𝓡))
     (cited 𝓤 H (ChainPasses 𝓤 H (𝓖 .A) W (𝓜 .mem) (𝓡 .run)) 𝓜 𝓡 code.env follow-name follow-routine code.calls-lent-blocks·chain-passes
     (follow-met.met 𝓤 H 𝓜 𝓖 𝓡)))
   where

@@ -1,6 +1,6 @@
 -- `write_onwards` meets its contract: a walk of its code, by hand, since it goes over a lent slice of structs. Each turn lends the blocks, the store and the
 -- words to `open_next` and takes them back; what is then left is less than before.
-use Prim.Native.Nat.{ℕ, zero, suc, _<_, _^_}
+use Prim.Native.Nat.{ℕ, zero, suc, _<_, _≤_, _^_}
 use mathlib.Core.Bool.{Bool}
 use mathlib.Core.List.{List, [], _∷_, _++_}
 use mathlib.Core.Path.{_≡_, refl, sym, _∙_, ap, subst}
@@ -57,7 +57,7 @@ use Rattle.placements.proofs.filling.Filled.Laws as filled-laws
 use Rattle.placements.proofs.rest.Rest as rest
 use Rattle.placements.proofs.rest.Rest.Laws as rest-laws
 use Rattle.tables.specs.Changing.{presentBlocks}
-use Rattle.lent_blocks.proofs.Opening.{Opens, all-present, all-written}
+use Rattle.lent_blocks.proofs.Opening.{Opens, all-present, all-written, opens-less}
 use Rattle.lent_blocks.proofs.Passing as passing
 use Rattle.lent_blocks.proofs.Passing.{Back, BothKept, BothLast, BothLent, BothTokens, Loans, Parameters, Tokens, all-go, apart, both-back, both-lent, spelt, stayed, together, told}
 use Rattle.lent_blocks.proofs.Relending.{KeptOf, LentAs, lentAs, slice-back, slice-lends}
@@ -147,13 +147,16 @@ module _ {M : Type 1} (𝓤 : URA M) (H : Heap 𝓤) (A : Atoms 𝓤) (W : Given
   abbrev Post : Val → SProp 𝓤
   Post = walkOf 𝓤 H A walk.ended stayed (walk.clauses 𝓤 H A mem″ run) .post bound
 
-  -- What holds between two turns: what is left may be written, and whatever writes it has written what was left at the entry.
+  -- What holds between two turns: no more is left than at the entry, and with nothing left there the owner is as it was; what is
+  -- left may be written, and whatever writes it has written what was left at the entry.
   record Facts (t : Turn) : Type 0 where
     long-b : length (t .blocks) ≡ length (bs .now)
     long-s : length (t .store) ≡ length (ss .now)
     long-w : length (t .words) ≡ length (ws .now)
     is-owner : Is domain.the-row (t .owner) (vals domain.the-type domain-laws.the-laws (t .owner))
     is-left : Is rest.the-row (t .left) (vals rest.the-type rest-laws.the-laws (t .left))
+    no-more-left : t .left .count .0 ≤ r .count .0
+    same-owner : r .count .0 ≡ 0 → t .owner ≡ owner
     may : ¬ (t .left .count .0 ≡ 0) → MayGoOn c (length (t .store)) (length (t .words)) d (t .owner) (t .left)
     goes : OpenedNext c d r (bs .now) owner (ss .now) (ws .now) (t .left) (t .blocks) (t .owner) (t .store) (t .words)
 
@@ -163,7 +166,7 @@ module _ {M : Type 1} (𝓤 : URA M) (H : Heap 𝓤) (A : Atoms 𝓤) (W : Given
       qed W (Had (t .blocks) (t .store) (t .words)) ∵
       suffices ! _ (ends-at 𝓤 H A walk.ended stayed (walk.clauses 𝓤 H A mem″ run) W bound (domainVal (t .owner)) (t .owner)
       (t .blocks, (tt, (tt, (tt, (tt, (t .store, (t .words, tt))))))) (f .long-b, (tt, (tt, (tt, (tt, (f .long-s, (f .long-w, tt)))))))) $
-      says ! (all-written c d r (t .left) (bs .now) (t .blocks) owner (t .owner) (ss .now) (ws .now) (t .store) (t .words) over (f .goes)) $ group ! 3 $
+      says ! (all-written c d r (t .left) (bs .now) (t .blocks) owner (t .owner) (ss .now) (ws .now) (t .store) (t .words) (f .same-owner) over (f .goes)) $ group ! 3 $
       use1 W (Tokens κ κ′ κ″ q q′ q″ bs ss ws 𝓤 H A W ⊛ ‵ (Back κ κ′ κ″ q q′ q″ bs ss ws 𝓤 H A W (t .blocks) (t .store) (t .words)))
       (together κ κ′ κ″ q q′ q″ bs ss ws 𝓤 H A W (t .blocks) (t .store) (t .words) (f .long-b) (f .long-s) (f .long-w)) $ split ! $ frame ! $
       owned ! domain.the-row (Is domain.the-row) (makes domain.the-type domain-laws.the-plain 𝓤 H A) (t .owner) (domainVal (t .owner) ∷ []) (f .is-owner) $
@@ -286,12 +289,18 @@ module _ {M : Type 1} (𝓤 : URA M) (H : Heap 𝓤) (A : Atoms 𝓤) (W : Given
           long-w = longs .1 ∙ f .long-w;
           is-owner = is-owner′ y v is;
           is-left = is-left′ y v is;
+          no-more-left = omega (arith, less y e opens, f .no-more-left);
+          same-owner = λ none. absurd (omega (arith, none, small, f .no-more-left));
           may = opens .1;
           goes = λ u same sixteen w end went. f .goes u same sixteen w end (opens .2 u same sixteen w end went);
-        }) (opens .0)))))))))))
+        }) (less y e opens)))))))))))
       where
         left-some : ¬ (t .left .count .0 ≡ 0)
         left-some e = omega (arith, e, small)
+
+        less : (y : Filled) (e : List Block × (List ℕ × List ℕ)) → Opens c d (t .owner) (t .left) (t .blocks) (t .store) (t .words) y (e .0) (e .1 .0) (e .1 .1)
+            → y .rest .count .0 < t .left .count .0
+        less y e = opens-less c d (t .owner) (t .left) (t .blocks) (t .store) (t .words) y (e .0) (e .1 .0) (e .1 .1) (f .may left-some .within) left-some
 
         call-of : ℕ × GName → Loans → OpenNext 𝓤 H A W mem″ run .Ghost
         call-of a l = to-open 𝓤 H A W mem″ run c d (t .owner) (t .left) cv (domainVal (t .owner)) (restVal (t .left)) (a .0) (l .0 .0) (l .1 .0)
@@ -353,6 +362,8 @@ module _ {M : Type 1} (𝓤 : URA M) (H : Heap 𝓤) (A : Atoms 𝓤) (W : Given
         long-w = refl;
         is-owner = is-o;
         is-left = is-r;
+        no-more-left = omega arith;
+        same-owner = λ _. refl;
         may = may;
         goes = λ u same sixteen w end went. went;
       })) (loop-rule 𝓤 H (W .laws) 𝓣 _<_ (Nat·lt-wfRel .wf) En turn-1 Left Inv turns (r .count .0))

@@ -1,19 +1,18 @@
 -- The clauses of soundness as facts: of each domain, of each block, and of views where a clause speaks of every two blocks.
 -- `facts-of` and `facts-sound` tie them to the test.
 use Prim.Native.Nat.{ℕ, _≤_, _<_}
-use mathlib.Core.Bool.{true, false, true≢false}
-use mathlib.Core.Path.{_≡_, refl, sym}
+use mathlib.Core.Bool.{true, false}
+use mathlib.Core.Path.{_≡_}
 use native.Mathlib.Omega.{arith}
-use Rattle.geometry.specs.Shape.{adus, adusPerBlock, withinLimits}
-use Rattle.model.specs.Blocks.{freeBlock}
+use Rattle.geometry.specs.Shape.{adusPerBlock, withinLimits}
 use Rattle.model.specs.declared.block.Block.{Block}
 use Rattle.model.specs.declared.block.State.{State}
 use Rattle.model.specs.declared.block.State.the-variants.{Closed, Free, Open}
 use Rattle.model.specs.declared.table.Domain.{Domain}
 use Rattle.model.specs.declared.table.Table.{Table}
 use Rattle.rules.specs.Domains.{coverage, instead, reservedBy}
-use Rattle.rules.specs.Drive.{Drive, blockAt, capacity, clearDomain, domainAt, heldCount, isFree}
-use Rattle.rules.specs.Drive.{isFreeState, openCount, size}
+use Rattle.rules.specs.Drive.{Drive, blockAt, capacity, clearDomain, domainAt, heldCount}
+use Rattle.rules.specs.Drive.{openCount, size}
 use Rattle.rules.specs.Soundness.{stateBelow}
 use Rattle.rules.proofs.Kept.Views.{ifPlaced, ifSerial, view}
 
@@ -107,20 +106,3 @@ pub written-most : (t : Table) (s : State) (b : Block) → StateFacts t s b → 
 written-most t Free b f = omega (arith, f .written)
 written-most t (Open way) b f = omega (arith, f .written)
 written-most t (Closed way) b f = f .written
-
--- A Free block's record is clear but for its P/E count.
-pub free-record : (t : Table) (b : Block) → isFree b ≡ true → BlockFacts t b → b ≡ freeBlock (b .erases)
-free-record t b free facts = go (b .state) refl free facts
-  where
-    go : (s : State) → b .state ≡ s → isFreeState s ≡ true → StateFacts t s b → b ≡ freeBlock (b .erases)
-    go Free e free f =
-        λ i. record {
-          state = e i;
-          holder = f .holder i;
-          written = adus (f .written i);
-          left = f .left i;
-          erases = b .erases;
-          serial = f .serial i;
-        }
-    go (Open way) e free f = absurd (true≢false (sym free))
-    go (Closed way) e free f = absurd (true≢false (sym free))

@@ -7,8 +7,8 @@ use Rattle.model.specs.declared.answer.Answer.the-variants as given
 use Rattle.model.specs.declared.command.Command.the-variants.{Close}
 use Rattle.rules.specs.Drive.{blockAt}
 use Rattle.rules.specs.Effects.{effect}
-use Rattle.survey.proofs.Outcomes.{begun-sound, change-outcome, then-outcome}
-use Rattle.survey.proofs.Seeing.{changed-block, sound-limits}
+use Rattle.scan.proofs.Outcomes.{begun-sound, change-outcome, then-outcome}
+use Rattle.scan.proofs.Seeing.{changed-block, sound-limits}
 use Rattle.tables.specs.Changing.{blockChange}
 use Rattle.tables.specs.Verdicts.{verdictNumber}
 use borrow.Author.Needs.{needs}
@@ -35,18 +35,18 @@ block-change-requires c κs = search needs
 
 returns : tie.Need-returns
 returns c = let z = c .before .before .before .before .before in let a = z .args in let k = Close (a .domain) (a .block) in λ t store words bytes s b.
-    let e = begun-sound k 0 (a .sight) (t, s) (z .pre) in
-    then-outcome t k (c .refusal .result) (c .before .before .reason .given .0 .0) store words bytes (z .pre t s)
-    (sym (ap verdictNumber (c .before .before .reason .given .1)) ∙ c .before .before .before .before .held-block-verdict .ensures ∙ named-asked t (a .domain) (a .block) (a .sight) s b e) (c .refusal .ensures)
+    let e = begun-sound k 0 (a .summary) (t, s) (z .pre .1) in
+    then-outcome t k (c .refusal .result) (c .before .before .reason .given .0 .0) store words bytes (z .pre .1 t s)
+    (sym (ap verdictNumber (c .before .before .reason .given .1)) ∙ c .before .before .before .before .held-block-verdict .ensures ∙ named-asked t (a .domain) (a .block) (a .summary) s b e) (c .refusal .ensures)
 
 returns-2 : tie.Need-returns-2
 unfolding effect
 returns-2 c = let z = c .before .before .before .before .before .before in let a = z .args in let k = Close (a .domain) (a .block) in λ t store words bytes s b.
-    let e = begun-sound k 0 (a .sight) (t, s) (z .pre) in
-    let yes = sym (named-asked t (a .domain) (a .block) (a .sight) s b e) ∙ sym (c .before .before .before .before .before .held-block-verdict .ensures) ∙ ap verdictNumber (c .before .before .before .enum-told .given .1) in
+    let e = begun-sound k 0 (a .summary) (t, s) (z .pre .1) in
+    let yes = sym (named-asked t (a .domain) (a .block) (a .summary) s b e) ∙ sym (c .before .before .before .before .before .held-block-verdict .ensures) ∙ ap verdictNumber (c .before .before .before .enum-told .given .1) in
     let l = named-inside t (a .domain) (a .block) yes in
     rw (c .block-change .ensures, c .before .closed .ensures, b .same-block e l)
-    (change-outcome t k (given.Block (a .block)) (blockChange (a .block) (closed (blockAt t (a .block)))) _ (a .block ∷ []) store words bytes (z .pre t s) yes
+    (change-outcome t k (given.Block (a .block)) (blockChange (a .block) (closed (blockAt t (a .block)))) _ (a .block ∷ []) store words bytes (z .pre .1 t s) yes
     (changed-block t (a .block) (closed (blockAt t (a .block))) (sound-limits t (sym (s .tested) ∙ e)) l) refl refl refl)
 
 pub close-spec : {M : Type 1} → statement M

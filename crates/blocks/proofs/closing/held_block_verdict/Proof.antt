@@ -22,7 +22,7 @@ and-requires c κs = search needs
 
 returns : tie.Need-returns
 unfolding chain positive thenNumber
-returns c = let z = c .before .before .before .before .before .args in let x = z .sight in
+returns c = let z = c .before .before .before .before .before .args in let x = z .summary in
     rw (c .and .ensures, c .before .is-held .ensures, c .before .before .ask .ensures)
     (one-by-one (ask 6 (isBlock (x .config) (z .block)) ∷ ask 9 (heldBy (z .domain) (x .block)) ∷ []) refl)
 

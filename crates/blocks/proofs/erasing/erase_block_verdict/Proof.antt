@@ -39,7 +39,7 @@ and-requires-2 c κs = search needs
 
 returns : tie.Need-returns
 unfolding chain positive thenNumber blockQuestions
-returns c = let z = c .before .before .before .before .before .before .before .before .args in let b = z .sight .block in
+returns c = let z = c .before .before .before .before .before .before .before .before .args in let b = z .summary .block in
     rw (
       c .and2 .ensures,
       c .before .is-closed .ensures,
@@ -49,7 +49,7 @@ returns c = let z = c .before .before .before .before .before .before .before .b
       c .before .before .before .before .before .before .is-held .ensures,
       again (eqb (z .block) anyBlock) (heldBy (z .domain) b) (isClosed b),
     )
-    (one-by-one (blockQuestions (z .sight) (z .domain) (z .block)) refl)
+    (one-by-one (blockQuestions (z .summary) (z .domain) (z .block)) refl)
 
 pub erase-block-verdict-spec : {M : Type 1} → statement M
 erase-block-verdict-spec =

@@ -32,7 +32,7 @@ then-requires c κs = search needs
 
 returns : tie.Need-returns
 unfolding chain positive blockQuestions eraseQuestions
-returns c = let z = c .before .before .before .before .before .before .before in let a = z .args in let x = a .sight in λ t s.
+returns c = let z = c .before .before .before .before .before .before .before in let a = z .args in let x = a .summary in λ t s.
     let qs = blockQuestions x (a .domain) (a .block) in
     let limit = ask 11 (ltb (x .opened) (x .domain .limit)) ∷ [] in
     rw (

@@ -12,11 +12,11 @@ is-held-requires c κs = search needs
 
 returns : tie.Need-returns
 returns c = let z = c .before .before .before .args in
-    let e : opensAgain (z .sight) (z .domain) (z .block) ≡ true = rw (c .before .is-held .ensures) at (c .if1 .taken) in (rw e, omega arith)
+    let e : opensAgain (z .summary) (z .domain) (z .block) ≡ true = rw (c .before .is-held .ensures) at (c .if1 .taken) in (rw e, omega arith)
 
 returns-2 : tie.Need-returns-2
 returns-2 c = let z = c .before .before .before .args in
-    let e : opensAgain (z .sight) (z .domain) (z .block) ≡ false = rw (c .before .is-held .ensures) at (c .if1 .left) in (rw e, omega arith)
+    let e : opensAgain (z .summary) (z .domain) (z .block) ≡ false = rw (c .before .is-held .ensures) at (c .if1 .left) in (rw e, omega arith)
 
 pub new-of-erase-spec : {M : Type 1} → statement M
 new-of-erase-spec = tie.close (tie.spec is-held-requires returns returns-2)

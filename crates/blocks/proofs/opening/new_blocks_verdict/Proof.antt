@@ -4,15 +4,15 @@ use mathlib.Core.Path.{refl}
 use native.Mathlib.Omega.{arith}
 use borrow.Author.Needs.{needs}
 use Rattle.geometry.proofs.Laws.Questions.{positive}
-use Rattle.survey.proofs.Seeing.{held-seen}
+use Rattle.scan.proofs.Seeing.{held-seen}
 use Rattle.tables.proofs.Answering.{chain, one-by-one}
 use Rattle.tables.specs.Verdicts.{newBlocksQuestions, thenNumber}
 use Rattle.blocks.proofs.opening.new_blocks_verdict.Statement.{statement}
 use Rattle.blocks.proofs.opening.new_blocks_verdict.Tie as tie
 
 -- No domain of a sound table holds more blocks than there are.
-least : (c : tie.Start) → c .args .sight .held ≤ 256
-least c = held-seen (c .pre .0 .0 .0) (c .args .domain) (c .args .sight) (c .pre .0 .0 .1) (c .pre .0 .1) (c .pre .1 .0)
+least : (c : tie.Start) → c .args .summary .held ≤ 256
+least c = held-seen (c .pre .0 .0 .0) (c .args .domain) (c .args .summary) (c .pre .0 .0 .1) (c .pre .0 .1) (c .pre .1 .0)
 
 add-after : tie.Need-add-after
 add-after c = omega (arith, least (c .before .before), c .before .before .pre .1 .1)

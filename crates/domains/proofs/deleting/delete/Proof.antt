@@ -10,8 +10,8 @@ use Rattle.geometry.specs.Questions.{firstNo}
 use Rattle.model.specs.declared.answer.Answer.the-variants.{Done}
 use Rattle.model.specs.declared.command.Command.the-variants.{Delete}
 use Rattle.rules.specs.Effects.{effect}
-use Rattle.survey.proofs.Outcomes.{begun-yes, change-outcome}
-use Rattle.survey.proofs.Seeing.{changed-deletion, sound-limits}
+use Rattle.scan.proofs.Outcomes.{begun-yes, change-outcome}
+use Rattle.scan.proofs.Seeing.{changed-deletion, sound-limits}
 use Rattle.tables.specs.Changing.{deletionOf}
 use borrow.Author.Needs.{needs}
 use Rattle.domains.proofs.deleting.delete.Statement.{statement}

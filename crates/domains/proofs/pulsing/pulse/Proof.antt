@@ -9,8 +9,8 @@ use Rattle.model.specs.declared.answer.Answer.the-variants.{Done}
 use Rattle.model.specs.declared.answer.Refusal.the-variants.{Range}
 use Rattle.model.specs.declared.command.Command.the-variants.{Pulse}
 use Rattle.rules.specs.Effects.{effect}
-use Rattle.survey.proofs.Outcomes.{begun-yes, change-outcome, then-outcome}
-use Rattle.survey.proofs.Seeing.{changed-pulse, sound-limits}
+use Rattle.scan.proofs.Outcomes.{begun-yes, change-outcome, then-outcome}
+use Rattle.scan.proofs.Seeing.{changed-pulse, sound-limits}
 use Rattle.tables.specs.Changing.{pulseChange}
 use borrow.Author.Needs.{needs}
 use Rattle.domains.proofs.pulsing.pulse.Statement.{statement}

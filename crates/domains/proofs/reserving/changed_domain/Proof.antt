@@ -10,11 +10,11 @@ cast-held c = search needs
 
 new-block-count-requires : tie.Need-new-block-count-requires
 new-block-count-requires c κs = let z = c .before .before .before in let a = z .args in
-    (z .pre .0, few-both (a .sight .config) (a .guarantee) (a .quota) (z .pre .0) (z .pre .1 .0) .0)
+    (z .pre .0, few-both (a .summary .config) (a .guarantee) (a .quota) (z .pre .0) (z .pre .1 .0) .0)
 
 new-block-count-requires-2 : tie.Need-new-block-count-requires-2
 new-block-count-requires-2 c κs = let z = c .before .before .before .before in let a = z .args in
-    (z .pre .0, few-both (a .sight .config) (a .guarantee) (a .quota) (z .pre .0) (z .pre .1 .0) .1)
+    (z .pre .0, few-both (a .summary .config) (a .guarantee) (a .quota) (z .pre .0) (z .pre .1 .0) .1)
 
 larger-count-requires : tie.Need-larger-count-requires
 larger-count-requires c κs = search needs

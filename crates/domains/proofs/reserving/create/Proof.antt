@@ -11,7 +11,7 @@ use Rattle.model.specs.declared.command.Command.{Command}
 use Rattle.model.specs.declared.command.Command.the-variants.{Create}
 use Rattle.rules.specs.Domains.{createdDomain}
 use Rattle.rules.specs.Effects.{effect}
-use Rattle.survey.proofs.Outcomes.{begun-limits, begun-sound, begun-yes, then-outcome}
+use Rattle.scan.proofs.Outcomes.{begun-limits, begun-sound, begun-yes, then-outcome}
 use borrow.Author.Needs.{needs}
 use Rattle.domains.proofs.reserving.create.Statement.{statement}
 use Rattle.domains.proofs.reserving.create.Tie as tie
@@ -20,17 +20,17 @@ use Rattle.domains.proofs.reserving.create.Tie as tie
 abbrev asks : tie.Start → Command
 asks c = let a = c .args in Create (a .domain) (a .guarantee) (a .quota) (a .placements) (a .limit)
 
-whole : (c : tie.Start) → c .args .sight .sound ≡ true
-whole c = begun-sound (asks c) 0 (c .args .sight) (c .pre .0) (c .pre .1)
+whole : (c : tie.Start) → c .args .summary .sound ≡ true
+whole c = begun-sound (asks c) 0 (c .args .summary) (c .pre .0) (c .pre .1)
 
-within : (c : tie.Start) → withinLimits (c .args .sight .config) ≡ true
-within c = begun-limits (asks c) 0 (c .args .sight) (c .pre .0) (c .pre .1)
+within : (c : tie.Start) → withinLimits (c .args .summary .config) ≡ true
+within c = begun-limits (asks c) 0 (c .args .summary) (c .pre .0) (c .pre .1)
 
 known-id : (c : tie.Start) → isDomainId (c .args .domain) ≡ true
 known-id c = let p = c .pre in begun-yes 4 (p .0 .0) (asks c) 0 (p .1 (p .0 .0) (p .0 .1))
 
 -- The numbers are in range where that is told.
-in-range : (c : tie.After-in-range) → let a = c .before .before .args in c .in-range .result ≡ true → createRange (a .sight .config) (a .guarantee) (a .quota) (a .placements) (a .limit) ≡ true
+in-range : (c : tie.After-in-range) → let a = c .before .before .args in c .in-range .result ≡ true → createRange (a .summary .config) (a .guarantee) (a .quota) (a .placements) (a .limit) ≡ true
 in-range c e = sym (c .in-range .ensures) ∙ e
 
 in-range-requires : tie.Need-in-range-requires
@@ -38,7 +38,7 @@ in-range-requires c κs = within (c .before)
 
 created-domain-requires : tie.Need-created-domain-requires
 created-domain-requires c κs = let z = c .before .before .before in let a = z .args in
-    (within z, create-range (a .sight .config) (a .guarantee) (a .quota) (a .placements) (a .limit) (in-range (c .before) (c .if1 .taken)))
+    (within z, create-range (a .summary .config) (a .guarantee) (a .quota) (a .placements) (a .limit) (in-range (c .before) (c .if1 .taken)))
 
 reserved-requires : tie.Need-reserved-requires
 reserved-requires c κs = let z = c .before .before .before .before in ((z .pre .0, whole z), known-id z)

@@ -3,7 +3,7 @@ use mathlib.Core.Path.{sym, ap, _∙_}
 use native.Mathlib.Omega.{arith}
 use Rattle.domains.specs.Reserving.{reserved}
 use Rattle.rules.specs.Domains.{coveredWith}
-use Rattle.survey.proofs.Seeing.{held-seen}
+use Rattle.scan.proofs.Seeing.{held-seen}
 use borrow.Author.Needs.{needs}
 use Rattle.domains.proofs.reserving.reserved.Statement.{statement}
 use Rattle.domains.proofs.reserving.reserved.Tie as tie
@@ -13,7 +13,7 @@ cast-covered-with c = search needs
 
 covered-with-requires : tie.Need-covered-with-requires
 covered-with-requires c κs = let z = c .before in
-    (z .pre .0, (z .pre .1, (omega arith, omega (arith, held-seen (z .pre .0 .0 .0) (z .args .domain) (z .args .sight) (z .pre .0 .0 .1) (z .pre .0 .1) (z .pre .1)))))
+    (z .pre .0, (z .pre .1, (omega arith, omega (arith, held-seen (z .pre .0 .0 .0) (z .args .domain) (z .args .summary) (z .pre .0 .0 .1) (z .pre .0 .1) (z .pre .1)))))
 
 domain-change-requires : tie.Need-domain-change-requires
 domain-change-requires c κs = search needs

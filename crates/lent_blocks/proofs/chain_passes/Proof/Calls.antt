@@ -31,14 +31,14 @@ use Rattle.countdown.proofs.Calling.{Given-back, gives}
 use Rattle.model.specs.declared.block.Block.{Block}
 use Rattle.model.proofs.block.Block as block
 use Rattle.model.proofs.block.Block.Laws as block-laws
-use Rattle.survey.specs.Marks.{chainBefore, markCount, sameSerial}
-use Rattle.survey.proofs.chain_before as stepping
-use Rattle.survey.proofs.not_sound as testing
-use Rattle.survey.proofs.same_serial as comparing
+use Rattle.scan.specs.Marks.{chainBefore, markCount, sameSerial}
+use Rattle.scan.proofs.chain_before as stepping
+use Rattle.scan.proofs.not_sound as testing
+use Rattle.scan.proofs.same_serial as comparing
 -- where each callee stands in the table of calls
-pub use Rattle.survey.proofs.chain_before.Symbol.{name as step-name, routine as step-routine}
-pub use Rattle.survey.proofs.not_sound.Symbol.{name as test-name, routine as test-routine}
-pub use Rattle.survey.proofs.same_serial.Symbol.{name as compare-name, routine as compare-routine}
+pub use Rattle.scan.proofs.chain_before.Symbol.{name as step-name, routine as step-routine}
+pub use Rattle.scan.proofs.not_sound.Symbol.{name as test-name, routine as test-routine}
+pub use Rattle.scan.proofs.same_serial.Symbol.{name as compare-name, routine as compare-routine}
 
 -- What `chain_before` ensures of its result r, with the marks us.
 abbrev pub Stepped : List ℕ → ℕ → ℕ → Type 0

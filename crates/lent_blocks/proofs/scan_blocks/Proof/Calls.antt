@@ -35,18 +35,18 @@ use Rattle.model.proofs.block.Block as block
 use Rattle.model.proofs.block.Block.Laws as block-laws
 use Rattle.model.proofs.table.Domain as domain
 use Rattle.model.proofs.table.Domain.Laws as domain-laws
-use Rattle.survey.specs.Clauses.{domainIndex}
-use Rattle.survey.specs.Marks.{markCount}
-use Rattle.survey.specs.Scan.{Scanned, chainPasses}
-use Rattle.survey.specs.declared.scan.Subject.{Subject}
-use Rattle.survey.proofs.scan.Subject as subject
-use Rattle.survey.proofs.scan.Subject.Laws as subject-laws
-use Rattle.survey.proofs.holder_index as placing
-use Rattle.survey.proofs.scan_block as scanning
+use Rattle.scan.specs.Clauses.{domainIndex}
+use Rattle.scan.specs.Marks.{markCount}
+use Rattle.scan.specs.Scan.{Scanned, chainPasses}
+use Rattle.scan.specs.declared.scan.Subject.{Subject}
+use Rattle.scan.proofs.scan.Subject as subject
+use Rattle.scan.proofs.scan.Subject.Laws as subject-laws
+use Rattle.scan.proofs.holder_index as placing
+use Rattle.scan.proofs.scan_block as scanning
 use Rattle.lent_blocks.proofs.chain_passes as following
 -- where each callee stands in the table of calls
-pub use Rattle.survey.proofs.holder_index.Symbol.{name as place-name, routine as place-routine}
-pub use Rattle.survey.proofs.scan_block.Symbol.{name as scan-name, routine as scan-routine}
+pub use Rattle.scan.proofs.holder_index.Symbol.{name as place-name, routine as place-routine}
+pub use Rattle.scan.proofs.scan_block.Symbol.{name as scan-name, routine as scan-routine}
 pub use Rattle.lent_blocks.proofs.chain_passes.Symbol.{name as follow-name, routine as follow-routine}
 
 -- What `holder_index` ensures of its result r, with the block z.

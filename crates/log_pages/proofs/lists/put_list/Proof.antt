@@ -9,8 +9,8 @@ use Rattle.log_pages.proofs.lists.put_list.Tie as tie
 use Rattle.log_pages.proofs.lists.put_list.Reads as reads
 use Rattle.log_pages.proofs.lists.put_list.Lts as lts
 use Rattle.log_pages.proofs.lists.put_descriptor.Reads as put-descriptor-reads
-use Rattle.survey.proofs.byte_told.Reads as byte-told-reads
-use Rattle.survey.proofs.index_told.Reads as index-told-reads
+use Rattle.scan.proofs.byte_told.Reads as byte-told-reads
+use Rattle.scan.proofs.index_told.Reads as index-told-reads
 
 abbrev Inv-loop : tie.InvT-loop
 Inv-loop bytes₀ marks blocks at₀ n₀ bytes at n = Begun marks blocks n at bytes₀ bytes

@@ -14,7 +14,7 @@ use Rattle.rules.specs.Calls.{calling}
 use Rattle.rules.specs.Drive.{blockAt}
 use Rattle.rules.specs.Effects.{effect}
 use Rattle.rules.specs.LogPages.{page}
-use Rattle.survey.proofs.Outcomes.{begun-limits, begun-sound}
+use Rattle.scan.proofs.Outcomes.{begun-limits, begun-sound}
 use Rattle.tables.proofs.Answering.{accepted-call, then-refused, then-verdict}
 use Rattle.tables.specs.Serving.{drive}
 use Rattle.tables.specs.Verdicts.{verdictNumber}
@@ -23,11 +23,11 @@ use Rattle.log_pages.proofs.pages.page.Statement.{statement}
 use Rattle.log_pages.proofs.pages.page.Tie as tie
 
 -- The table is sound.
-whole : (c : tie.Start) → c .args .sight .sound ≡ true
-whole c = begun-sound (Page (c .args .domain) (c .args .block)) 0 (c .args .sight) (c .pre .0) (c .pre .1)
+whole : (c : tie.Start) → c .args .summary .sound ≡ true
+whole c = begun-sound (Page (c .args .domain) (c .args .block)) 0 (c .args .summary) (c .pre .0) (c .pre .1)
 
 -- Behind the verdict every question was answered yes.
-passed : (c : tie.After-enum-told) → let a = c .before .before .before .before .args in firstNo (pageQuestions (a .sight) (a .domain) (a .block) (length (a .bytes .now))) ≡ 0
+passed : (c : tie.After-enum-told) → let a = c .before .before .before .before .args in firstNo (pageQuestions (a .summary) (a .domain) (a .block) (length (a .bytes .now))) ≡ 0
 passed c = sym (c .before .before .page-verdict .ensures) ∙ ap verdictNumber (c .enum-told .given .1)
 
 page-verdict-requires : tie.Need-page-verdict-requires
@@ -41,18 +41,18 @@ enum-told c = search needs
 
 put-identity-requires : tie.Need-put-identity-requires
 put-identity-requires c κs = let a = c .before .before .before .before .before .before .before .args in
-    page-room (a .sight) (a .domain) (a .block) (length (a .bytes .now)) (passed (c .before .before .before))
+    page-room (a .summary) (a .domain) (a .block) (length (a .bytes .now)) (passed (c .before .before .before))
 
 put-counts-requires : tie.Need-put-counts-requires
 put-counts-requires c κs = let z = c .before .before .before .before .before .before .before .before .before .before .before in let a = z .args in
     let long = c .before .before .bytes .given in
-    let room = page-room (a .sight) (a .domain) (a .block) (length (a .bytes .now)) (passed (c .before .before .before .before .before .before .before)) in
-    (omega (arith, long, room), begun-limits (Page (a .domain) (a .block)) 0 (a .sight) (z .pre .0) (z .pre .1))
+    let room = page-room (a .summary) (a .domain) (a .block) (length (a .bytes .now)) (passed (c .before .before .before .before .before .before .before)) in
+    (omega (arith, long, room), begun-limits (Page (a .domain) (a .block)) 0 (a .summary) (z .pre .0) (z .pre .1))
 
 returns : tie.Need-returns
 returns c = let z = c .before .before .before .before .before in let a = z .args in λ t store words s b.
     then-refused (drive t store) (calling (Page (a .domain) (a .block)) store words (a .bytes .now)) words (a .bytes .now) (c .before .reason .given .0 .0) (z .pre .1 t s)
-    (sym (ap verdictNumber (c .before .reason .given .1)) ∙ c .before .before .before .page-verdict .ensures ∙ page-asked t (a .domain) (a .block) (length (a .bytes .now)) (a .sight) store (length store) (length words) s b (whole z))
+    (sym (ap verdictNumber (c .before .reason .given .1)) ∙ c .before .before .before .page-verdict .ensures ∙ page-asked t (a .domain) (a .block) (length (a .bytes .now)) (a .summary) store (length store) (length words) s b (whole z))
 
 same-length : tie.Need-same-length
 same-length c = search needs
@@ -63,16 +63,16 @@ returns-2 c = let z = c .before .before .before .before .before .before .before 
     let v = drive t store in
     let room = length (a .bytes .now) in
     let told = passed (c .before .before .before .before .before .before .before .before .before .before) in
-    let same = b .same-block (whole z) (rw (← s .same-config) (page-inside (a .sight) (a .domain) (a .block) room told)) in
+    let same = b .same-block (whole z) (rw (← s .same-config) (page-inside (a .summary) (a .domain) (a .block) room told)) in
     let call = calling (Page (a .domain) (a .block)) store words (a .bytes .now) in
     accepted-call v call words (a .bytes .now) _ (page (t .config) (a .block) (blockAt t (a .block)))
     (then-verdict v call (z .pre .1 t s)
-    ∙ sym (page-asked t (a .domain) (a .block) room (a .sight) store (length store) (length words) s b (whole z))
+    ∙ sym (page-asked t (a .domain) (a .block) room (a .summary) store (length store) (length words) s b (whole z))
     ∙ told)
     refl refl (sym (overwritten-nothing words)) refl
     (c .before .before .put-counts .ensures (a .block)
-    ∙ rw (c .before .before .before .before .before .before .put-identity .ensures (a .sight .config))
-    (fill-parts 12 (page (a .sight .config) (a .block) (a .sight .block)) (a .bytes .now) (rw page-length (omega arith))
+    ∙ rw (c .before .before .before .before .before .before .put-identity .ensures (a .summary .config))
+    (fill-parts 12 (page (a .summary .config) (a .block) (a .summary .block)) (a .bytes .now) (rw page-length (omega arith))
     ∙ rw (s .same-config, same)))
 
 pub page-spec : {M : Type 1} → statement M

@@ -24,7 +24,7 @@ returns : tie.Need-returns
 unfolding chain positive thenNumber
 returns c = let z = c .before .before .before .before .before .before .args in
     rw (c .and2 .ensures, c .before .is-held .ensures, c .before .before .and .ensures, c .before .before .before .ask .ensures)
-    (one-by-one (pageQuestions (z .sight) (z .domain) (z .block) (z .room)) refl)
+    (one-by-one (pageQuestions (z .summary) (z .domain) (z .block) (z .room)) refl)
 
 pub page-verdict-spec : {M : Type 1} → statement M
 page-verdict-spec =

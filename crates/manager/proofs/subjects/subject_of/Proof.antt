@@ -53,8 +53,8 @@ named-requires-3 c κs = search needs
 enum-known-command-7 : tie.Need-enum-known-command-7
 enum-known-command-7 c = search needs
 
-placed-requires : tie.Need-placed-requires
-placed-requires c κs = search needs
+by-placement-requires : tie.Need-by-placement-requires
+by-placement-requires c κs = search needs
 
 enum-known-command-8 : tie.Need-enum-known-command-8
 enum-known-command-8 c = search needs
@@ -115,7 +115,7 @@ returns-6 c = rw (c .before .before .command6 .given .1) (c .named3 .ensures)
 
 returns-7 : tie.Need-returns-7
 unfolding subjectOf
-returns-7 c = rw (c .before .before .command7 .given .1) (c .placed .ensures)
+returns-7 c = rw (c .before .before .command7 .given .1) (c .by-placement .ensures)
 
 returns-8 : tie.Need-returns-8
 unfolding subjectOf
@@ -157,7 +157,7 @@ subject-of-spec =
     enum-known-command-6
     named-requires-3
     enum-known-command-7
-    placed-requires
+    by-placement-requires
     enum-known-command-8
     named-requires-4
     enum-known-command-9

@@ -1,4 +1,4 @@
--- The range and the room, one by one.
+-- The range and the words, one by one.
 use mathlib.Core.Path.{refl}
 use Rattle.geometry.proofs.Laws.Questions.{positive}
 use Rattle.placements.specs.Asking.{placementArguments}
@@ -24,7 +24,7 @@ returns : tie.Need-returns
 unfolding chain positive thenNumber placementArguments
 returns c = let z = c .before .before .before .before .before .before .args in
     rw (c .and .ensures, c .before .before .ask .ensures, c .before .before .before .is-count .ensures)
-    (one-by-one (placementArguments (z .sight) (z .room) (z .placement) (z .count)) refl)
+    (one-by-one (placementArguments (z .summary) (z .words) (z .placement) (z .count)) refl)
 
 pub placement-arguments-spec : {M : Type 1} → statement M
 placement-arguments-spec =

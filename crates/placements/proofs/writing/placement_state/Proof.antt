@@ -11,21 +11,21 @@ use Rattle.placements.specs.Asking.{mayOpenSeen, placementState}
 use Rattle.placements.specs.Onwards.{blocksIn}
 use Rattle.placements.specs.Placing.{roomSeen}
 use Rattle.rules.specs.Questions.{userAddressesFit}
-use Rattle.survey.proofs.Seeing.{limits-seen}
+use Rattle.scan.proofs.Seeing.{limits-seen}
 use Rattle.tables.proofs.Answering.{chain, first-append, one-by-one}
 use Rattle.tables.specs.Verdicts.{newBlocksQuestions, thenNumber}
 use Rattle.placements.proofs.writing.placement_state.Statement.{statement}
 use Rattle.placements.proofs.writing.placement_state.Tie as tie
 
 room-in-requires : tie.Need-room-in-requires
-room-in-requires c κs = let z = c .before in limits-seen (z .pre .0 .0 .0) (z .args .domain) (z .args .sight) (z .pre .0 .0 .1) (z .pre .0 .1)
+room-in-requires c κs = let z = c .before in limits-seen (z .pre .0 .0 .0) (z .args .domain) (z .args .summary) (z .pre .0 .0 .1) (z .pre .0 .1)
 
 without-requires : tie.Need-without-requires
 without-requires c κs = search needs
 
 blocks-for-requires : tie.Need-blocks-for-requires
 blocks-for-requires c κs = let z = c .before .before .before in
-    (limits-seen (z .pre .0 .0 .0) (z .args .domain) (z .args .sight) (z .pre .0 .0 .1) (z .pre .0 .1), rw (c .without .ensures) (omega (arith, is-between 1 256 (z .args .count .0) (z .pre .1 .1) .most)))
+    (limits-seen (z .pre .0 .0 .0) (z .args .domain) (z .args .summary) (z .pre .0 .0 .1) (z .pre .0 .1), rw (c .without .ensures) (omega (arith, is-between 1 256 (z .args .count .0) (z .pre .1 .1) .most)))
 
 may-open-for-requires : tie.Need-may-open-for-requires
 may-open-for-requires c κs = search needs
@@ -50,7 +50,7 @@ then-requires c κs = search needs
 
 returns : tie.Need-returns
 unfolding chain positive thenNumber placementState
-returns c = let z = c .before .before .before .before .before .before .before .before .before .before in let a = z .args in let x = a .sight in λ t s.
+returns c = let z = c .before .before .before .before .before .before .before .before .before .before in let a = z .args in let x = a .summary in λ t s.
     let first = ask 8 (userAddressesFit (a .start) (a .count .0)) ∷ ask 11 (mayOpenSeen x) ∷ [] in
     let blocks = blocksIn (x .config) (a .count .0 - roomSeen x) in
     let rest = newBlocksQuestions t (a .domain) blocks blocks in

@@ -26,19 +26,19 @@ enum-told c = search needs
 placement-state-requires : tie.Need-placement-state-requires
 unfolding positive placementArguments
 placement-state-requires c κs = let z = c .before .before .before in let a = z .args in
-    let qs = placementArguments (a .sight) (a .room) (a .placement) (a .count) in
+    let qs = placementArguments (a .summary) (a .words) (a .placement) (a .count) in
     let e : firstNo qs ≡ 0 = sym (c .before .before .placement-arguments .ensures) ∙ ap verdictNumber (c .enum-told .given .1) in
-    (z .pre .0, (z .pre .1, both (ltb (a .placement) (a .sight .domain .placements)) (isCount (a .count)) (yes-in 6 qs refl e) .1))
+    (z .pre .0, (z .pre .1, both (ltb (a .placement) (a .summary .domain .placements)) (isCount (a .count)) (yes-in 6 qs refl e) .1))
 
 returns : tie.Need-returns
 returns c = let a = c .before .before .before .before .args in let reason = c .before .reason .given .0 .0 in λ t s.
-    sym (then-not (placementArguments (a .sight) (a .room) (a .placement) (a .count)) (placementState t (a .sight) (a .domain) (a .start) (a .count)) (numberOf reason) (refusal-positive reason)
+    sym (then-not (placementArguments (a .summary) (a .words) (a .placement) (a .count)) (placementState t (a .summary) (a .domain) (a .start) (a .count)) (numberOf reason) (refusal-positive reason)
     (sym (c .before .before .before .placement-arguments .ensures) ∙ ap verdictNumber (c .before .reason .given .1)))
 
 returns-2 : tie.Need-returns-2
 unfolding positive placementArguments
 returns-2 c = let a = c .before .before .before .before .args in λ t s.
-    c .placement-state .ensures t s ∙ sym (then-asked (placementArguments (a .sight) (a .room) (a .placement) (a .count)) (placementState t (a .sight) (a .domain) (a .start) (a .count)) refl
+    c .placement-state .ensures t s ∙ sym (then-asked (placementArguments (a .summary) (a .words) (a .placement) (a .count)) (placementState t (a .summary) (a .domain) (a .start) (a .count)) refl
     (sym (c .before .before .before .placement-arguments .ensures) ∙ ap verdictNumber (c .before .enum-told .given .1)))
 
 pub placement-verdict-spec : {M : Type 1} → statement M

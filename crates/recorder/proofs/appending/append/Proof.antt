@@ -62,7 +62,7 @@ use Rattle.recorder.proofs.appending.append as outer
 use Rattle.recorder.proofs.appending.append.Code as code
 use Rattle.recorder.proofs.appending.append.Key.{name}
 use Rattle.recorder.proofs.appending.append.Statement.{statement}
-use Rattle.recorder.proofs.Slices.{slice}
+use Rattle.recorder.proofs.Lending.{slice}
 
 -- At the exit nothing need be had of the table, the domain and the sample, which are plain data; the slices were passed on for good.
 abbrev stayed : Stays (outer.ended .signature .params) (outer.ended .kept)

@@ -61,9 +61,9 @@ use Rattle.rules.specs.Drive.{size}
 use Rattle.tables.specs.Serving.{answering}
 use Rattle.recorder.specs.Samples.{freeing}
 use Rattle.recorder.specs.Steps.{Again}
-use Rattle.recorder.specs.declared.choice.Found.{Found}
-use Rattle.recorder.proofs.choice.Found as found
-use Rattle.recorder.proofs.choice.Found.Laws as found-laws
+use Rattle.recorder.specs.declared.choice.Oldest.{Oldest}
+use Rattle.recorder.proofs.choice.Oldest as found
+use Rattle.recorder.proofs.choice.Oldest.Laws as found-laws
 use Rattle.recorder.proofs.choice.freeing_command.Met as free-met
 use Rattle.recorder.proofs.choice.oldest_closed.Met as find-met
 use Rattle.recorder.proofs.choice.records_of.Met as count-met
@@ -73,15 +73,14 @@ use Rattle.recorder.proofs.appending.write_again.Code as code
 use Rattle.recorder.proofs.appending.write_again.Code.Mir.{table as declarations}
 use Rattle.recorder.proofs.appending.write_again.Key.{name}
 use Rattle.recorder.proofs.appending.write_again.Statement.{statement}
-use Rattle.recorder.proofs.appending.write_again.Proof.Calls.{count-name, count-routine, find-name, find-routine, free-name, free-routine}
-use Rattle.recorder.proofs.appending.write_again.Proof.Calls.{AskFind, Counted, Counting, FindBack, Finding, Freeing, Made, count-gives, count-may, find-done, find-ready, free-gives, free-may, long}
-use Rattle.recorder.proofs.appending.write_again.Proof.Calls.{to-count, to-find, to-free}
-use Rattle.recorder.proofs.Calls.{AskWords, ServeWords, WordsBack, to-words, words-done, words-name, words-ready, words-routine}
-use Rattle.recorder.proofs.Domains.{are-narrow, are-shaped}
-use Rattle.recorder.proofs.Lending.{AtEntry, AtExit, Lent, Owned, Reading, SameLengths, State, Tokens, b, begun, enters, leaves, lengths-on, o, opens, tableValue}
+use Rattle.recorder.proofs.appending.write_again.Proof.Calls.{find-name, find-routine, free-name, free-routine}
+use Rattle.recorder.proofs.appending.write_again.Proof.Calls.{AskFind, FindBack, Finding, Freeing, Made, find-done, find-ready, free-gives, free-may}
+use Rattle.recorder.proofs.appending.write_again.Proof.Calls.{to-find, to-free}
+use Rattle.recorder.proofs.Calls.{AskWords, Counted, Counting, ServeWords, WordsBack, count-gives, count-may, count-name, count-routine, to-count, to-words, words-done, words-name, words-ready, words-routine}
+use Rattle.recorder.proofs.Shapes.{are-narrow, are-shaped}
+use Rattle.recorder.proofs.Lending.{AtEntry, AtExit, Lent, Owned, Reading, SameLengths, State, Tokens, b, begun, enters, leaves, lengths-on, o, opens, slice, tableValue}
 use Rattle.recorder.proofs.Oldest.{frees}
-use Rattle.recorder.proofs.Records.{blocksAt}
-use Rattle.recorder.proofs.Slices.{slice}
+use Rattle.recorder.proofs.Records.{blocksAt, records-many}
 mod Calls
 
 -- ---- The frame
@@ -216,7 +215,7 @@ module _ {M : Type 1} (𝓤 : URA M) (H : Heap 𝓤) (A : Atoms 𝓤) (W : Given
             assigns ! (agg ! (and-then ! (load ! (from ! (stop !)) (look ! 13 refl)) (and-then ! (load ! (from ! (stop !)) (look ! 8 refl)) (no-more !)))) (from ! (stop !))
             (init ! 14 refl (tt, (tt, (record { fits = is-n .1 }, tt)))) $
             use2 W (later (AskFind 𝓤 H A W mem″ run L (begun L) n d)) (find-ready 𝓤 H A W mem″ run L (begun L) n d all few is-t d-fits) $ await ! tt $ pick ! (λ e. split ! $
-            rewrite ! 14 (λ (m : ℕ). frames.holds 𝓤 H localTypes bs 12 (sliceVal (b L, o L + blocksAt) m)) (sym (long 𝓤 H A W mem″ run L (begun L) n d all few)) refl $
+            rewrite ! 14 (λ (m : ℕ). frames.holds 𝓤 H localTypes bs 12 (sliceVal (b L, o L + blocksAt) m)) (sym (records-many (b L) (o L) (L .table .now) n all few)) refl $
             calls-at ! (fmOf 𝓤 H (W .laws) 𝓣) (Finding 𝓤 H A W mem″ run) known-find (to-find 𝓤 H A W mem″ run L (begun L) n d e)
             (and-then ! (load ! (from ! (stop !)) (look ! 14 refl)) (and-then ! (load ! (from ! (stop !)) (look ! 4 refl)) (no-more !))) (λ fv.
             use2 W (later (FindBack 𝓤 H A W mem″ run L (begun L) n d all few fv)) (find-done 𝓤 H A W mem″ run L (begun L) n d all few e fv) $ await ! tt $ pick ! (λ f. learn ! (λ found-so.
@@ -227,7 +226,7 @@ module _ {M : Type 1} (𝓤 : URA M) (H : Heap 𝓤) (A : Atoms 𝓤) (W : Given
             (and-then ! (load ! (from ! (stop !)) (look ! 9 refl)) (and-then ! (load ! (from ! (stop !)) (look ! 4 refl)) (no-more !))) (λ cv.
             use1 W (later (some (λ (c : Command). given (Is command.the-row c (cv ∷ [])) (‵ ftrue ⊛ raw (Made 𝓤 H A W mem″ run f fv d c)))))
             (free-gives 𝓤 H A W mem″ run f fv d cv) $ await ! tt $ pick ! (λ c. learn ! (λ is-c. split ! $ drop ! $ heard ! (c ≡ Free d (f .number)) (λ made.
-            let chosen : c ≡ freeing (L .table .now) d = made ∙ ap (λ (x : Found). Free d (x .number)) (found-so .1) ∙ frees (L .table .now) d n narrow all counted in
+            let chosen : c ≡ freeing (L .table .now) d = made ∙ ap (λ (x : Oldest). Free d (x .number)) (found-so .1) ∙ frees (L .table .now) d n narrow all counted in
             land ! (from ! (stop !)) (init ! 9 refl (enum.lawful command.the-type command-laws.the-laws 𝓤 H A W tt .typed c (cv ∷ []) is-c .0)) $
             -- it is freed
             assigns ! (addr ! (from ! (hop ! (look ! 2 refl) (stop !)))) (from ! (stop !)) (init ! 14 refl (tt, tt)) $

@@ -54,9 +54,9 @@ use Rattle.model.proofs.block.Block as block
 use Rattle.model.proofs.block.Block.Laws as block-laws
 use Rattle.rules.specs.Drive.{clearBlock}
 use Rattle.recorder.specs.Choice.{foundIn, noneFound, olderOf}
-use Rattle.recorder.specs.declared.choice.Found.{Found}
-use Rattle.recorder.proofs.choice.Found as found
-use Rattle.recorder.proofs.choice.Found.Laws as found-laws
+use Rattle.recorder.specs.declared.choice.Oldest.{Oldest}
+use Rattle.recorder.proofs.choice.Oldest as found
+use Rattle.recorder.proofs.choice.Oldest.Laws as found-laws
 use Rattle.recorder.proofs.choice.older as step
 use Rattle.recorder.proofs.choice.older.Met as step-met
 use Rattle.recorder.proofs.choice.older.Symbol as step-symbol
@@ -110,7 +110,7 @@ record Turn : Type 0 where
   value : Val
 
 module _ {M : Type 1} (𝓤 : URA M) (H : Heap 𝓤) (A : Atoms 𝓤) (W : Given 𝓤 H A) (mem″ : Memory → SProp 𝓤) (run : Routine → Fun 𝓤) where
-  typed-found : (f : Found) (v : Val) → Is found.the-row f (v ∷ []) → T (hasTy found-laws.mir v) × WT v
+  typed-found : (f : Oldest) (v : Val) → Is found.the-row f (v ∷ []) → T (hasTy found-laws.mir v) × WT v
   typed-found f v is = lawful found.the-type found-laws.the-laws 𝓤 H A W .typed f (v ∷ []) is .0
 
   -- ---- The call of `older`
@@ -119,8 +119,8 @@ module _ {M : Type 1} (𝓤 : URA M) (H : Heap 𝓤) (A : Atoms 𝓤) (W : Given
   Older = tripleOf 𝓤 H A step.signature (step.spec 𝓤 H A mem″ run)
 
   -- After f was found, whose machine value is v, with record i, which is z, whose machine value is u.
-  module _ (f : Found) (v : Val) (i : ℕ) (z : Block) (u : Val) (d : ℕ) where
-    abbrev args : Found × (ℕ × (Block × (ℕ × Unit {0})))
+  module _ (f : Oldest) (v : Val) (i : ℕ) (z : Block) (u : Val) (d : ℕ) where
+    abbrev args : Oldest × (ℕ × (Block × (ℕ × Unit {0})))
     args = (f, (i, (z, (d, tt))))
 
     abbrev called : Older .Ghost
@@ -134,7 +134,7 @@ module _ {M : Type 1} (𝓤 : URA M) (H : Heap 𝓤) (A : Atoms 𝓤) (W : Given
         owned ! found.the-row (Is found.the-row) (makes found.the-type found-laws.the-plain 𝓤 H A) f (v ∷ []) is-f $ fjoin ! $
         nothing ! $ join ! $ frame ! $ done !
 
-    abbrev Chosen : Found → SProp 𝓤
+    abbrev Chosen : Oldest → SProp 𝓤
     Chosen r = fact 𝓤 (r ≡ olderOf f i z d)
 
     chooses : (w : Val) → ent 𝓤 (Older .post called w) (H .⇛ (ex 𝓤 (Given-back 𝓤 H A W step.ended (step.clauses 𝓤 H A mem″ run) called w Chosen)))
@@ -238,13 +238,13 @@ module _ {M : Type 1} (𝓤 : URA M) (H : Heap 𝓤) (A : Atoms 𝓤) (W : Given
             calls-at ! (fmOf 𝓤 H (W .laws) 𝓣) Older known (called (foundIn xs d i) v i z u d)
             (and-then ! (load ! (from ! (stop !)) (look ! 6 refl)) (and-then ! (load ! (from ! (stop !)) (look ! 13 refl))
             (and-then ! (load ! (from ! (stop !)) (look ! 8 refl)) (and-then ! (load ! (from ! (stop !)) (look ! 5 refl)) (no-more !))))) (λ w.
-            use1 W (later (some (λ (r : Found). given (Is found.the-row r (w ∷ [])) (‵ ftrue ⊛ raw (Chosen (foundIn xs d i) v i z u d r)))))
+            use1 W (later (some (λ (r : Oldest). given (Is found.the-row r (w ∷ [])) (‵ ftrue ⊛ raw (Chosen (foundIn xs d i) v i z u d r)))))
             (chooses (foundIn xs d i) v i z u d w) $ await ! tt $ pick ! (λ r. learn ! (λ is-r. split ! $ drop ! $ heard ! (r ≡ olderOf (foundIn xs d i) i z d) (λ e.
             land ! (from ! (stop !)) (store ! 5 refl (typed-found r w is-r)) $
             -- the next index
             assigns-last ! (bin ! (load ! (from ! (stop !)) (look ! 6 refl)) (lit ! tt) (record { fits = next })) (from ! (stop !)) (store ! 6 refl (tt, record { fits = next })) $
             forget ! 7 refl $ forget ! 8 refl $ forget ! 9 refl $ forget ! 10 refl $ forget ! 11 refl $ forget ! 12 refl $
-            by ! (k w (subst (λ (f : Found). Is found.the-row f (w ∷ [])) (e ∙ sym (found-next xs d i)) is-r))))))))
+            by ! (k w (subst (λ (f : Oldest). Is found.the-row f (w ∷ [])) (e ∙ sym (found-next xs d i)) is-r))))))))
           where
             z : Block
             z = getD xs i clearBlock
@@ -302,7 +302,7 @@ module _ {M : Type 1} (𝓤 : URA M) (H : Heap 𝓤) (A : Atoms 𝓤) (W : Given
 
         -- The loop, from all records left.
         loops : ent 𝓤 (⋆ 𝓤 H A (At 0 begun)) (Wp 𝓤 H (𝓣 .C) (𝓣 .Λ) En (loop turn-1) Left)
-        loops = via 𝓤 (Inv n) (inv-in n 0 begun (omega arith) (subst (λ (f : Found). Is found.the-row f (begun ∷ [])) (sym (found-none xs d)) is-begun))
+        loops = via 𝓤 (Inv n) (inv-in n 0 begun (omega arith) (subst (λ (f : Oldest). Is found.the-row f (begun ∷ [])) (sym (found-none xs d)) is-begun))
             (loop-rule 𝓤 H (W .laws) 𝓣 _<_ (Nat·lt-wfRel .wf) En turn-1 Left Inv turns n)
 
       -- From the entry: what was found and the index begin, the borrow is opened, and the loop runs.

@@ -65,7 +65,7 @@ use Rattle.recorder.proofs.reading.latest as outer
 use Rattle.recorder.proofs.reading.latest.Code as code
 use Rattle.recorder.proofs.reading.latest.Key.{name}
 use Rattle.recorder.proofs.reading.latest.Statement.{statement}
-use Rattle.recorder.proofs.Slices.{slice}
+use Rattle.recorder.proofs.Lending.{slice}
 
 -- At the exit nothing need be had of the table, the domain and the count, which are plain data; the slices were passed on for good.
 abbrev stayed : Stays (outer.ended .signature .params) (outer.ended .kept)

@@ -1,4 +1,4 @@
--- The range and the room, one by one.
+-- The range and the words, one by one.
 use mathlib.Core.Path.{_≡_, refl, _∙_}
 use Rattle.geometry.proofs.Laws.Questions.{positive}
 use Rattle.geometry.specs.Shape.{adusPerBlock}
@@ -24,9 +24,9 @@ and-requires c κs = search needs
 returns : tie.Need-returns
 unfolding chain positive thenNumber readArguments
 returns c = let z = c .before .before .before .before .before .before .before .before .before .before .before in let a = z .args in
-    let all : c .before .before .before .before .before .before .adus-per-block .result .0 ≡ adusPerBlock (a .sight .config) .0 = c .before .before .before .before .before .before .adus-per-block .ensures ∙ rw (z .pre) in
+    let all : c .before .before .before .before .before .before .adus-per-block .result .0 ≡ adusPerBlock (a .summary .config) .0 = c .before .before .before .before .before .before .adus-per-block .ensures ∙ rw (z .pre) in
     rw (c .and .ensures, c .before .before .ask .ensures, c .before .before .before .is-count .ensures, all)
-    (one-by-one (readArguments (a .sight) (a .room) (a .address) (a .count)) refl)
+    (one-by-one (readArguments (a .summary) (a .words) (a .address) (a .count)) refl)
 
 pub read-arguments-spec : {M : Type 1} → statement M
 read-arguments-spec =

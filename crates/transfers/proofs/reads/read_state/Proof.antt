@@ -37,9 +37,9 @@ and-requires-2 c κs = search needs
 returns : tie.Need-returns
 unfolding chain positive thenNumber readState
 returns c = let z = c .before .before .before .before .before .before .before .before .before .before .before .before .before in let a = z .args in
-    let all : c .before .before .before .before .before .before .before .before .adus-per-block .result .0 ≡ adusPerBlock (a .sight .config) .0 = c .before .before .before .before .before .before .before .before .adus-per-block .ensures ∙ rw (z .pre .0) in
+    let all : c .before .before .before .before .before .before .before .before .adus-per-block .result .0 ≡ adusPerBlock (a .summary .config) .0 = c .before .before .before .before .before .before .before .before .adus-per-block .ensures ∙ rw (z .pre .0) in
     rw (c .and2 .ensures, c .before .and .ensures, c .before .before .ask .ensures, c .before .before .before .user-addresses-fit .ensures, c .before .before .before .before .ends-within2 .ensures, c .before .before .before .before .before .ends-within .ensures, c .before .before .before .before .before .before .before .is-held .ensures, all)
-    (one-by-one (readState (a .sight) (a .domain) (a .address) (a .count) (a .expected)) refl)
+    (one-by-one (readState (a .summary) (a .domain) (a .address) (a .count) (a .expected)) refl)
 
 pub read-state-spec : {M : Type 1} → statement M
 read-state-spec =

@@ -26,20 +26,20 @@ enum-told c = search needs
 
 read-state-requires : tie.Need-read-state-requires
 unfolding positive readArguments
-read-state-requires c κs = let z = c .before .before .before in let a = z .args in let shape = a .sight .config in
-    let qs = readArguments (a .sight) (a .room) (a .address) (a .count) in
+read-state-requires c κs = let z = c .before .before .before in let a = z .args in let shape = a .summary .config in
+    let qs = readArguments (a .summary) (a .words) (a .address) (a .count) in
     let e : firstNo qs ≡ 0 = sym (c .before .before .read-arguments .ensures) ∙ ap verdictNumber (c .enum-told .given .1) in
     (z .pre, both (isBlock shape (a .address .block) && isOffset shape (a .address .offset)) (isCount (a .count)) (yes-in 6 qs refl e) .1)
 
 returns : tie.Need-returns
 returns c = let a = c .before .before .before .before .args in let reason = c .before .reason .given .0 .0 in
-    sym (then-not (readArguments (a .sight) (a .room) (a .address) (a .count)) (readState (a .sight) (a .domain) (a .address) (a .count) (a .expected)) (numberOf reason) (refusal-positive reason)
+    sym (then-not (readArguments (a .summary) (a .words) (a .address) (a .count)) (readState (a .summary) (a .domain) (a .address) (a .count) (a .expected)) (numberOf reason) (refusal-positive reason)
     (sym (c .before .before .before .read-arguments .ensures) ∙ ap verdictNumber (c .before .reason .given .1)))
 
 returns-2 : tie.Need-returns-2
 unfolding positive readArguments
 returns-2 c = let a = c .before .before .before .before .args in
-    c .read-state .ensures ∙ sym (then-asked (readArguments (a .sight) (a .room) (a .address) (a .count)) (readState (a .sight) (a .domain) (a .address) (a .count) (a .expected)) refl
+    c .read-state .ensures ∙ sym (then-asked (readArguments (a .summary) (a .words) (a .address) (a .count)) (readState (a .summary) (a .domain) (a .address) (a .count) (a .expected)) refl
     (sym (c .before .before .before .read-arguments .ensures) ∙ ap verdictNumber (c .before .enum-told .given .1)))
 
 pub read-verdict-spec : {M : Type 1} → statement M

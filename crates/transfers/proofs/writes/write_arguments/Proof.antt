@@ -1,4 +1,4 @@
--- The range and the room, one by one.
+-- The range and the words, one by one.
 use mathlib.Core.Path.{refl}
 use Rattle.geometry.proofs.Laws.Questions.{positive}
 use Rattle.tables.proofs.Answering.{chain, one-by-one}
@@ -21,7 +21,7 @@ returns : tie.Need-returns
 unfolding chain positive thenNumber writeArguments
 returns c = let z = c .before .before .before .before .before .args in
     rw (c .and .ensures, c .before .before .ask .ensures, c .before .before .before .is-count .ensures)
-    (one-by-one (writeArguments (z .sight) (z .room) (z .block) (z .count)) refl)
+    (one-by-one (writeArguments (z .summary) (z .words) (z .block) (z .count)) refl)
 
 pub write-arguments-spec : {M : Type 1} → statement M
 write-arguments-spec = tie.close (tie.spec is-count-requires ask-requires and-requires returns)

@@ -40,9 +40,9 @@ and-requires-3 c κs = search needs
 returns : tie.Need-returns
 unfolding chain positive thenNumber writeState
 returns c = let z = c .before .before .before .before .before .before .before .before .before .before .before .before in let a = z .args in
-    let all : c .before .before .before .before .before .before .before .before .adus-per-block .result .0 ≡ adusPerBlock (a .sight .config) .0 = c .before .before .before .before .before .before .before .before .adus-per-block .ensures ∙ rw (z .pre .0) in
+    let all : c .before .before .before .before .before .before .before .before .adus-per-block .result .0 ≡ adusPerBlock (a .summary .config) .0 = c .before .before .before .before .before .before .before .before .adus-per-block .ensures ∙ rw (z .pre .0) in
     rw (c .and3 .ensures, c .before .ends-within .ensures, c .before .before .and2 .ensures, c .before .before .before .is-open-by-erase .ensures, c .before .before .before .before .and .ensures, c .before .before .before .before .before .is-held .ensures, c .before .before .before .before .before .before .ask .ensures, c .before .before .before .before .before .before .before .user-addresses-fit .ensures, all)
-    (one-by-one (writeState (a .sight) (a .domain) (a .start) (a .count)) refl)
+    (one-by-one (writeState (a .summary) (a .domain) (a .start) (a .count)) refl)
 
 pub write-state-spec : {M : Type 1} → statement M
 write-state-spec =

@@ -26,19 +26,19 @@ enum-told c = search needs
 write-state-requires : tie.Need-write-state-requires
 unfolding positive writeArguments
 write-state-requires c κs = let z = c .before .before .before in let a = z .args in
-    let qs = writeArguments (a .sight) (a .room) (a .block) (a .count) in
+    let qs = writeArguments (a .summary) (a .words) (a .block) (a .count) in
     let e : firstNo qs ≡ 0 = sym (c .before .before .write-arguments .ensures) ∙ ap verdictNumber (c .enum-told .given .1) in
-    (z .pre, both (isBlock (a .sight .config) (a .block)) (isCount (a .count)) (yes-in 6 qs refl e) .1)
+    (z .pre, both (isBlock (a .summary .config) (a .block)) (isCount (a .count)) (yes-in 6 qs refl e) .1)
 
 returns : tie.Need-returns
 returns c = let a = c .before .before .before .before .args in let reason = c .before .reason .given .0 .0 in
-    sym (then-not (writeArguments (a .sight) (a .room) (a .block) (a .count)) (writeState (a .sight) (a .domain) (a .start) (a .count)) (numberOf reason) (refusal-positive reason)
+    sym (then-not (writeArguments (a .summary) (a .words) (a .block) (a .count)) (writeState (a .summary) (a .domain) (a .start) (a .count)) (numberOf reason) (refusal-positive reason)
     (sym (c .before .before .before .write-arguments .ensures) ∙ ap verdictNumber (c .before .reason .given .1)))
 
 returns-2 : tie.Need-returns-2
 unfolding positive writeArguments
 returns-2 c = let a = c .before .before .before .before .args in
-    c .write-state .ensures ∙ sym (then-asked (writeArguments (a .sight) (a .room) (a .block) (a .count)) (writeState (a .sight) (a .domain) (a .start) (a .count)) refl
+    c .write-state .ensures ∙ sym (then-asked (writeArguments (a .summary) (a .words) (a .block) (a .count)) (writeState (a .summary) (a .domain) (a .start) (a .count)) refl
     (sym (c .before .before .before .write-arguments .ensures) ∙ ap verdictNumber (c .before .enum-told .given .1)))
 
 pub write-verdict-spec : {M : Type 1} → statement M

@@ -39,7 +39,7 @@ use Rattle.model.proofs.command.Command as command
 use Rattle.model.proofs.command.Command.Laws as command-laws
 use Rattle.model.proofs.table.Domain as domain
 use Rattle.model.proofs.table.Domain.Laws as domain-laws
-use Rattle.placements.specs.Onwards.{MayGoOn, WrittenOn}
+use Rattle.placements.specs.Onwards.{MayGoOn, WroteOnwards}
 use Rattle.placements.specs.declared.rest.Partial.{Partial}
 use Rattle.placements.specs.declared.rest.Rest.{Rest}
 use Rattle.placements.proofs.rest.Rest as rests
@@ -48,39 +48,37 @@ use Rattle.tables.specs.Changing.{changedBlocks, presentBlocks}
 use Rattle.tables.specs.declared.change.Change.{Change}
 use Rattle.tables.proofs.change.Change as change
 use Rattle.tables.proofs.change.Change.Laws as change-laws
-use Rattle.survey.specs.Marks.{markCount, noMarks}
-use Rattle.survey.specs.declared.scan.Ranges.{Ranges}
-use Rattle.survey.specs.declared.scan.Subject.{Subject}
-use Rattle.survey.specs.declared.sight.View.{View}
-use Rattle.survey.proofs.scan.Ranges as ranges
-use Rattle.survey.proofs.scan.Ranges.Laws as ranges-laws
-use Rattle.survey.proofs.scan.Subject as subject
-use Rattle.survey.proofs.scan.Subject.Laws as subject-laws
-use Rattle.survey.proofs.sight.View as view
-use Rattle.survey.proofs.sight.View.Laws as view-laws
-use Rattle.survey.proofs.no_marks as clearing
+use Rattle.scan.specs.Marks.{markCount, noMarks}
+use Rattle.scan.specs.declared.scan.Subject.{Subject}
+use Rattle.scan.specs.declared.summary.Summary.{Summary}
+use Rattle.scan.proofs.scan.Subject as subject
+use Rattle.scan.proofs.scan.Subject.Laws as subject-laws
+use Rattle.scan.proofs.summary.Summary as summary
+use Rattle.scan.proofs.summary.Summary.Laws as summary-laws
+use Rattle.scan.proofs.no_marks as clearing
 use Rattle.lent_blocks.proofs.change_blocks as writing
 use Rattle.lent_blocks.proofs.write_onwards as onwards
 use Rattle.lent_domains.proofs.put_domain as putting
-use Rattle.manager.specs.Answering.{Answered, Viewed, changedPlace}
+use Rattle.manager.specs.Answering.{Dispatched, Summarized, changedPlace}
 use Rattle.manager.specs.Looking.{Looked}
-use Rattle.manager.specs.Subjects.{beginningOf}
-use Rattle.manager.specs.declared.subjects.Beginning.{Beginning}
-use Rattle.manager.proofs.answering.answered as answering
-use Rattle.manager.proofs.subjects.begun as begins
+use Rattle.manager.specs.Subjects.{subjectOf}
+use Rattle.manager.proofs.answering.dispatch as answering
+use Rattle.manager.proofs.serving.present_blocks as counting
+use Rattle.manager.proofs.subjects.subject_of as taking
 use Rattle.manager.proofs.answering.changed_place as placing
-use Rattle.manager.proofs.looking.looked as looking
+use Rattle.manager.proofs.looking.summarize as looking
 -- where each callee stands in the table of calls
-pub use Rattle.manager.proofs.answering.answered.Symbol.{name as answered-name, routine as answered-routine}
-pub use Rattle.manager.proofs.subjects.begun.Symbol.{name as begun-name, routine as begun-routine}
+pub use Rattle.manager.proofs.answering.dispatch.Symbol.{name as dispatch-name, routine as dispatch-routine}
+pub use Rattle.manager.proofs.serving.present_blocks.Symbol.{name as count-name, routine as count-routine}
+pub use Rattle.manager.proofs.subjects.subject_of.Symbol.{name as subject-name, routine as subject-routine}
 pub use Rattle.manager.proofs.answering.changed_place.Symbol.{name as place-name, routine as place-routine}
-pub use Rattle.manager.proofs.looking.looked.Symbol.{name as looked-name, routine as looked-routine}
-pub use Rattle.survey.proofs.no_marks.Symbol.{name as clear-name, routine as clear-routine}
+pub use Rattle.manager.proofs.looking.summarize.Symbol.{name as look-name, routine as look-routine}
+pub use Rattle.scan.proofs.no_marks.Symbol.{name as clear-name, routine as clear-routine}
 pub use Rattle.lent_blocks.proofs.write_onwards.Symbol.{name as onwards-name, routine as onwards-routine}
 pub use Rattle.lent_blocks.proofs.change_blocks.Symbol.{name as write-name, routine as write-routine}
 pub use Rattle.lent_domains.proofs.put_domain.Symbol.{name as put-name, routine as put-routine}
 
--- The slices that are lent to `looked`.
+-- The slices that are lent to `summarize`.
 abbrev pub Seen : ℕ → RefT (List Block) → Fml
 Seen α xs = ShrSlice (named 0) (α ∷ []) block.the-row .own xs (sliceVal (xs .ptr) (length (xs .now)) ∷ [])
 
@@ -92,25 +90,45 @@ Marks δ ms = MutSlice (named 2) (δ ∷ []) u16 .own ms (sliceVal (ms .ptr) (le
 
 module _ {M : Type 1} (𝓤 : URA M) (H : Heap 𝓤) (A : Atoms 𝓤) (W : Given 𝓤 H A) where
   module _ (mem″ : Memory → SProp 𝓤) (run : Routine → Fun 𝓤) where
-    -- ---- `begun`
-    abbrev pub Begun : Contract 𝓤
-    Begun = tripleOf 𝓤 H A begins.signature (begins.spec 𝓤 H A mem″ run)
+    -- ---- `present_blocks`
+    abbrev pub PresentBlocks : Contract 𝓤
+    PresentBlocks = tripleOf 𝓤 H A counting.signature (counting.spec 𝓤 H A mem″ run)
+
+    module _ (c : Config) (cv : Val) where
+      abbrev pub to-count : PresentBlocks .Ghost
+      to-count = ((tt, tt, tt, (c, tt), (cv ∷ [], tt)), tt)
+
+      pub count-may : Is config.the-row c (cv ∷ []) → ent 𝓤 (emp 𝓤) (PresentBlocks .pre to-count)
+      count-may is =
+          qed W [] ∵ nothing ! $ owned ! config.the-row (Is config.the-row) (makes config.the-type config-laws.the-plain 𝓤 H A) c (cv ∷ []) is $ fjoin ! $
+          nothing ! $ join ! $ frame ! $ done !
+
+      abbrev pub Counted : ℕ → SProp 𝓤
+      Counted r = fact 𝓤 ((r ≡ presentBlocks c) × (r ≤ 256))
+
+      pub count-gives : (v : Val) → ent 𝓤 (PresentBlocks .post to-count v) (H .⇛ (ex 𝓤 (Given-back 𝓤 H A W counting.ended (counting.clauses 𝓤 H A mem″ run) to-count v Counted)))
+      count-gives v = gives 𝓤 H A W counting.ended (counting.clauses 𝓤 H A mem″ run) to-count v Counted
+          (λ r. exE 𝓤 _ (λ ws. snd∗ 𝓤 (sem 𝓤 H A (lasts counting.ended tt (c, tt) ws)) (Counted r)))
+
+    -- ---- `subject_of`
+    abbrev pub SubjectOf : Contract 𝓤
+    SubjectOf = tripleOf 𝓤 H A taking.signature (taking.spec 𝓤 H A mem″ run)
 
     module _ (c : Config) (k : Command) (cv kv : Val) where
-      abbrev pub to-begun : Begun .Ghost
-      to-begun = ((tt, tt, tt, (c, (k, tt)), (cv ∷ [], (kv ∷ [], tt))), tt)
+      abbrev pub to-subject : SubjectOf .Ghost
+      to-subject = ((tt, tt, tt, (c, (k, tt)), (cv ∷ [], (kv ∷ [], tt))), tt)
 
-      pub begun-may : Is config.the-row c (cv ∷ []) → Is command.the-row k (kv ∷ []) → ent 𝓤 (emp 𝓤) (Begun .pre to-begun)
-      begun-may is is′ =
+      pub subject-may : Is config.the-row c (cv ∷ []) → Is command.the-row k (kv ∷ []) → ent 𝓤 (emp 𝓤) (SubjectOf .pre to-subject)
+      subject-may is is′ =
           qed W [] ∵ nothing ! $ owned ! command.the-row (Is command.the-row) (enum-makes command.the-type command-laws.the-plain 𝓤 H A) k (kv ∷ []) is′ $ fjoin ! $
           owned ! config.the-row (Is config.the-row) (makes config.the-type config-laws.the-plain 𝓤 H A) c (cv ∷ []) is $ fjoin ! $ nothing ! $ join ! $ frame ! $ done !
 
-      abbrev pub Began : Beginning → SProp 𝓤
-      Began r = fact 𝓤 ((r ≡ beginningOf c k) × (r .blocks ≤ 256))
+      abbrev pub Taken : Subject → SProp 𝓤
+      Taken r = fact 𝓤 (r ≡ subjectOf c k)
 
-      pub begun-gives : (v : Val) → ent 𝓤 (Begun .post to-begun v) (H .⇛ (ex 𝓤 (Given-back 𝓤 H A W begins.ended (begins.clauses 𝓤 H A mem″ run) to-begun v Began)))
-      begun-gives v = gives 𝓤 H A W begins.ended (begins.clauses 𝓤 H A mem″ run) to-begun v Began
-          (λ r. exE 𝓤 _ (λ ws. snd∗ 𝓤 (sem 𝓤 H A (lasts begins.ended tt (c, (k, tt)) ws)) (Began r)))
+      pub subject-gives : (v : Val) → ent 𝓤 (SubjectOf .post to-subject v) (H .⇛ (ex 𝓤 (Given-back 𝓤 H A W taking.ended (taking.clauses 𝓤 H A mem″ run) to-subject v Taken)))
+      subject-gives v = gives 𝓤 H A W taking.ended (taking.clauses 𝓤 H A mem″ run) to-subject v Taken
+          (λ r. exE 𝓤 _ (λ ws. snd∗ 𝓤 (sem 𝓤 H A (lasts taking.ended tt (c, (k, tt)) ws)) (Taken r)))
 
     -- ---- `no_marks`
     abbrev pub NoMarks : Contract 𝓤
@@ -149,23 +167,23 @@ module _ {M : Type 1} (𝓤 : URA M) (H : Heap 𝓤) (A : Atoms 𝓤) (W : Given
       place-gives v = gives 𝓤 H A W placing.ended (placing.clauses 𝓤 H A mem″ run) to-place v Placed
           (λ r. exE 𝓤 _ (λ ws. snd∗ 𝓤 (sem 𝓤 H A (lasts placing.ended tt (c, tt) ws)) (Placed r)))
 
-    -- ---- `looked`, with the records xs lent for α, the domains ds for β, and the marks ms for δ
+    -- ---- `summarize`, with the records xs lent for α, the domains ds for β, and the marks ms for δ
     abbrev pub LooksAt : Contract 𝓤
     LooksAt = tripleOf 𝓤 H A looking.signature (looking.spec 𝓤 H A mem″ run)
 
-    module _ (α β δ : ℕ) (xs : RefT (List Block)) (ds : RefT (List Domain)) (c : Config) (s : Subject) (p : Ranges) (ms : RefT (List ℕ)) (cv sv pv : Val) where
+    module _ (α β δ : ℕ) (xs : RefT (List Block)) (ds : RefT (List Domain)) (c : Config) (s : Subject) (ms : RefT (List ℕ)) (cv sv : Val) where
       abbrev pub to-look : LooksAt .Ghost
       to-look = (
         (
           (α ∷ [], (β ∷ [], (δ ∷ [], tt))),
           (fullShare, (fullShare, (fullShare, tt))),
           tt,
-          (xs, (ds, (c, (s, (p, (ms, tt)))))),
+          (xs, (ds, (c, (s, (ms, tt))))),
           (
             sliceVal (xs .ptr) (length (xs .now)) ∷ [],
             (
               sliceVal (ds .ptr) (length (ds .now)) ∷ [],
-              (cv ∷ [], (sv ∷ [], (pv ∷ [], (sliceVal (ms .ptr) (length (ms .now)) ∷ [], tt)))),
+              (cv ∷ [], (sv ∷ [], (sliceVal (ms .ptr) (length (ms .now)) ∷ [], tt))),
             ),
           ),
         ),
@@ -176,34 +194,33 @@ module _ {M : Type 1} (𝓤 : URA M) (H : Heap 𝓤) (A : Atoms 𝓤) (W : Given
       abbrev pub Alive : SProp 𝓤
       Alive = sep 𝓤 (A .lft (α ∷ []) fullShare) (sep 𝓤 (A .lft (β ∷ []) fullShare) (A .lft (δ ∷ []) fullShare))
 
-      pub look-may : Is config.the-row c (cv ∷ []) → Is subject.the-row s (sv ∷ []) → Is ranges.the-row p (pv ∷ [])
-          → length (xs .now) ≤ 256 → length (ds .now) ≡ 16 → length (ms .now) ≡ markCount → p .free ≤ length (xs .now) → p .list ≤ length (xs .now)
+      pub look-may : Is config.the-row c (cv ∷ []) → Is subject.the-row s (sv ∷ [])
+          → length (xs .now) ≤ 256 → length (ds .now) ≡ 16 → length (ms .now) ≡ markCount
           → ent 𝓤 (sep 𝓤 Alive (sep 𝓤 (sem 𝓤 H A (Seen α xs)) (sep 𝓤 (sem 𝓤 H A (SeenDomains β ds)) (sem 𝓤 H A (Marks δ ms))))) (LooksAt .pre to-look)
-      look-may is-c is-s is-p few all each free list =
-          qed W ((‵ (flft (α ∷ []) fullShare) ⊛ (‵ (flft (β ∷ []) fullShare) ⊛ ‵ (flft (δ ∷ []) fullShare))) ∷ ‵ (Seen α xs) ∷ ‵ (SeenDomains β ds) ∷ ‵ (Marks δ ms) ∷ []) ∵ says ! (few, all, each, free, list) $
+      look-may is-c is-s few all each =
+          qed W ((‵ (flft (α ∷ []) fullShare) ⊛ (‵ (flft (β ∷ []) fullShare) ⊛ ‵ (flft (δ ∷ []) fullShare))) ∷ ‵ (Seen α xs) ∷ ‵ (SeenDomains β ds) ∷ ‵ (Marks δ ms) ∷ []) ∵ says ! (few, all, each) $
           split ! $ move ! (1 ∷ []) $ split ! $ move ! (1 ∷ []) $ nothing ! $ move ! (1 ∷ 0 ∷ []) $ join ! $ move ! (1 ∷ 0 ∷ []) $ join ! $ move ! (1 ∷ 0 ∷ []) $ join ! $ frame ! $
           nothing ! $ move ! (3 ∷ 0 ∷ []) $ fjoin ! $
-          owned ! ranges.the-row (Is ranges.the-row) (makes ranges.the-type ranges-laws.the-plain 𝓤 H A) p (pv ∷ []) is-p $ fjoin ! $
           owned ! subject.the-row (Is subject.the-row) (makes subject.the-type subject-laws.the-plain 𝓤 H A) s (sv ∷ []) is-s $ fjoin ! $
           owned ! config.the-row (Is config.the-row) (makes config.the-type config-laws.the-plain 𝓤 H A) c (cv ∷ []) is-c $ fjoin ! $
           move ! (2 ∷ 0 ∷ []) $ fjoin ! $ move ! (1 ∷ 0 ∷ []) $ done !
 
       -- the marks at the exit, and what is known of them
-      abbrev pub Saw : View → List ℕ → SProp 𝓤
-      Saw r zs = guard 𝓤 (Looked c s p (xs .now) (ds .now) (ms .now) r zs × (length zs ≡ length (ms .now))) (sem 𝓤 H A (finally u16 (ms .name) zs))
+      abbrev pub Saw : Summary → List ℕ → SProp 𝓤
+      Saw r zs = guard 𝓤 (Looked c s (xs .now) (ds .now) (ms .now) r zs × (length zs ≡ length (ms .now))) (sem 𝓤 H A (finally u16 (ms .name) zs))
 
       abbrev Left : List ℕ → Fml
-      Left zs = fsep ftrue (fsep ftrue (fsep ftrue (fsep ftrue (fsep ftrue (fsep (fsep (finally u16 (ms .name) zs) (feq ℕ (length zs) (length (ms .now)))) ftrue)))))
+      Left zs = fsep ftrue (fsep ftrue (fsep ftrue (fsep ftrue (fsep (fsep (finally u16 (ms .name) zs) (feq ℕ (length zs) (length (ms .now)))) ftrue))))
 
-      look-told : (r : View) (zs : List ℕ) → ent 𝓤 (sep 𝓤 (sem 𝓤 H A (Left zs)) (fact 𝓤 (Looked c s p (xs .now) (ds .now) (ms .now) r zs))) (ex 𝓤 (Saw r))
+      look-told : (r : Summary) (zs : List ℕ) → ent 𝓤 (sep 𝓤 (sem 𝓤 H A (Left zs)) (fact 𝓤 (Looked c s (xs .now) (ds .now) (ms .now) r zs))) (ex 𝓤 (Saw r))
       look-told r zs = needs 𝓤 _ (sem 𝓤 H A (Left zs)) (λ f.
-          qed W (‵ (Left zs) ∷ []) ∵ fsplit ! $ drop ! $ fsplit ! $ drop ! $ fsplit ! $ drop ! $ fsplit ! $ drop ! $ fsplit ! $ drop ! $
+          qed W (‵ (Left zs) ∷ []) ∵ fsplit ! $ drop ! $ fsplit ! $ drop ! $ fsplit ! $ drop ! $ fsplit ! $ drop ! $
           fsplit ! $ fsplit ! $ move ! (1 ∷ []) $ feqL ! (λ l. keep ! (0 ∷ []) $ show ! (Saw r) zs $ check ! (f, l) $ done !))
 
       pub look-gives : (v : Val) → ent 𝓤 (LooksAt .post to-look v)
           (H .⇛ (ex 𝓤 (Given-back 𝓤 H A W looking.ended (looking.clauses 𝓤 H A mem″ run) to-look v (λ r. ex 𝓤 (Saw r)))))
       look-gives v = gives 𝓤 H A W looking.ended (looking.clauses 𝓤 H A mem″ run) to-look v (λ r. ex 𝓤 (Saw r))
-          (λ r. exE 𝓤 _ (λ ws. look-told r (ws .1 .1 .1 .1 .1 .0)))
+          (λ r. exE 𝓤 _ (λ ws. look-told r (ws .1 .1 .1 .1 .0)))
 
     -- ---- `change_blocks`, with the records xs lent for α
     abbrev pub ChangeBlocks : Contract 𝓤
@@ -296,7 +313,7 @@ module _ {M : Type 1} (𝓤 : URA M) (H : Heap 𝓤) (A : Atoms 𝓤) (W : Given
       Ends = List Block × (List ℕ × List ℕ)
 
       abbrev pub Goes-on : Domain → Ends → Type 0
-      Goes-on w′ z = WrittenOn c d r (xs .now) w (store .now) (words .now) (z .0) w′ (z .1 .0) (z .1 .1)
+      Goes-on w′ z = WroteOnwards c d r (xs .now) w (store .now) (words .now) (z .0) w′ (z .1 .0) (z .1 .1)
 
       abbrev pub As-long : Ends → Type 0
       As-long z = (length (z .0) ≡ length (xs .now)) × ((length (z .1 .0) ≡ length (store .now)) × (length (z .1 .1) ≡ length (words .now)))
@@ -358,7 +375,7 @@ module _ {M : Type 1} (𝓤 : URA M) (H : Heap 𝓤) (A : Atoms 𝓤) (W : Given
           (H .⇛ (ex 𝓤 (Given-back 𝓤 H A W putting.ended (putting.clauses 𝓤 H A mem″ run) to-put v (λ r. ex 𝓤 Put))))
       put-gives v = gives 𝓤 H A W putting.ended (putting.clauses 𝓤 H A mem″ run) to-put v (λ r. ex 𝓤 Put) (λ r. exE 𝓤 _ (λ ws. put-told (ws .0)))
 
-    -- ---- `answered`, with the marks ms lent for α, and the store, the words and the bytes for κ₁, κ₂ and κ₃
+    -- ---- `dispatch`, with the marks ms lent for α, and the store, the words and the bytes for κ₁, κ₂ and κ₃
     abbrev pub Answers : Contract 𝓤
     Answers = tripleOf 𝓤 H A answering.signature (answering.spec 𝓤 H A mem″ run)
 
@@ -381,9 +398,9 @@ module _ {M : Type 1} (𝓤 : URA M) (H : Heap 𝓤) (A : Atoms 𝓤) (W : Given
       abbrev pub Lengths : Lists → Type 0
       Lengths z = (length (z .0) ≡ length (store .now)) × ((length (z .1 .0) ≡ length (words .now)) × (length (z .1 .1) ≡ length (bytes .now)))
 
-      module _ (α : ℕ) (x : View) (ms : RefT (List ℕ)) (k : Command) (xv kv : Val) where
-        abbrev pub Sights : Fml
-        Sights = ShrSlice (named 0) (α ∷ []) u16 .own ms (sliceVal (ms .ptr) (length (ms .now)) ∷ [])
+      module _ (α : ℕ) (x : Summary) (ms : RefT (List ℕ)) (k : Command) (xv kv : Val) where
+        abbrev pub MarksLent : Fml
+        MarksLent = ShrSlice (named 0) (α ∷ []) u16 .own ms (sliceVal (ms .ptr) (length (ms .now)) ∷ [])
 
         abbrev pub to-answer : Answers .Ghost
         to-answer = (
@@ -409,16 +426,16 @@ module _ {M : Type 1} (𝓤 : URA M) (H : Heap 𝓤) (A : Atoms 𝓤) (W : Given
           tt,
         )
 
-        pub answer-may : Is view.the-row x (xv ∷ []) → Is command.the-row k (kv ∷ []) → Viewed x k (ms .now)
-            → ent 𝓤 (sep 𝓤 (sep 𝓤 (A .lft (α ∷ []) fullShare) Tokens) (sep 𝓤 (sem 𝓤 H A Sights) (sem 𝓤 H A Slices))) (Answers .pre to-answer)
-        answer-may is-x is-k viewed =
-            qed W ((‵ (flft (α ∷ []) fullShare) ⊛ raw Tokens) ∷ ‵ Sights ∷ ‵ Slices ∷ []) ∵ says ! viewed $ frame ! $ move ! (1 ∷ []) $
+        pub answer-may : Is summary.the-row x (xv ∷ []) → Is command.the-row k (kv ∷ []) → Summarized x k (ms .now)
+            → ent 𝓤 (sep 𝓤 (sep 𝓤 (A .lft (α ∷ []) fullShare) Tokens) (sep 𝓤 (sem 𝓤 H A MarksLent) (sem 𝓤 H A Slices))) (Answers .pre to-answer)
+        answer-may is-x is-k summarized =
+            qed W ((‵ (flft (α ∷ []) fullShare) ⊛ raw Tokens) ∷ ‵ MarksLent ∷ ‵ Slices ∷ []) ∵ says ! summarized $ frame ! $ move ! (1 ∷ []) $
             owned ! command.the-row (Is command.the-row) (enum-makes command.the-type command-laws.the-plain 𝓤 H A) k (kv ∷ []) is-k $ fjoin ! $ move ! (1 ∷ 0 ∷ []) $ fjoin ! $
-            owned ! view.the-row (Is view.the-row) (makes view.the-type view-laws.the-plain 𝓤 H A) x (xv ∷ []) is-x $ fjoin ! $ done !
+            owned ! summary.the-row (Is summary.the-row) (makes summary.the-type summary-laws.the-plain 𝓤 H A) x (xv ∷ []) is-x $ fjoin ! $ done !
 
         -- what the answer r and the last elements z are
         abbrev pub Says : Partial → Lists → Type 0
-        Says r z = Answered x k (ms .now) (store .now) (words .now) (bytes .now) r (z .0) (z .1 .0) (z .1 .1)
+        Says r z = Dispatched x k (ms .now) (store .now) (words .now) (bytes .now) r (z .0) (z .1 .0) (z .1 .1)
 
         abbrev pub Told : Partial → Lists → SProp 𝓤
         Told r z = guard 𝓤 (Says r z × Lengths z) (sem 𝓤 H A (Finals z))

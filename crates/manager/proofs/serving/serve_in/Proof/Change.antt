@@ -53,7 +53,7 @@ use Rattle.tables.proofs.change.Change.Laws as change-laws
 use Rattle.tables.proofs.change.Outcome as outcome
 use Rattle.tables.proofs.change.Outcome.Laws as outcome-laws
 use Rattle.manager.specs.Answering.{changedPlace}
-use Rattle.manager.proofs.serving.serve_in.Code.Mir.{t-24, t-29, t-38, t-42}
+use Rattle.manager.proofs.serving.serve_in.Code.Mir.{t-22, t-27, t-36, t-40}
 use Rattle.manager.proofs.serving.serve_in.Proof.Calls.{write-name, place-name, put-name, ChangeBlocks, Lent, to-write, write-may, write-gives, ChangedPlace, to-place, place-may, Placed, place-gives, PutDomain, LentDomains, to-put, put-may, put-gives}
 use Rattle.manager.proofs.serving.serve_in.Proof.Frame.{En, holds, empty}
 use Rattle.manager.proofs.serving.serve_in.Proof.InMemory.{withRecords, withDomains, Lies, LieBlocks, LieDomains, blocksAt, domainsAt, blocks-field, domains-field, Rest, Beside, blocks-out, blocks-in, domains-out, domains-in}
@@ -119,17 +119,17 @@ module _ {M : Type 1} (𝓤 : URA M) (H : Heap 𝓤) (A : Atoms 𝓤) (W : Given
 
     pub writes-blocks : {G : Type 0} {Γ : List (Item 𝓤)} → G
         → (Is outcome.the-row (r .outcome) (ov ∷ []) → Is change.the-row c (cv ∷ []) → length back ≡ n
-        → Goes 𝓤 H A W 𝓣 bs K G (‵ (Lies 𝓤 H A W b o (withRecords (back ++ rest n (t .blocks)) t)) ∷ holds 𝓤 H bs 1 (vptr b o) ∷ holds 𝓤 H bs 13 pv
-        ∷ holds 𝓤 H bs 8 (vint w64 n) ∷ holds 𝓤 H bs 14 ov ∷ holds 𝓤 H bs 15 cv ∷ empty 𝓤 H bs 36 ∷ empty 𝓤 H bs 37 ∷ empty 𝓤 H bs 35 ∷ Γ) t-29)
-        → Goes 𝓤 H A W 𝓣 bs K G (‵ (Lies 𝓤 H A W b o t) ∷ holds 𝓤 H bs 1 (vptr b o) ∷ holds 𝓤 H bs 13 rv ∷ holds 𝓤 H bs 8 (vint w64 n) ∷ empty 𝓤 H bs 14
-        ∷ empty 𝓤 H bs 15 ∷ empty 𝓤 H bs 36 ∷ empty 𝓤 H bs 37 ∷ empty 𝓤 H bs 35 ∷ Γ) t-24
+        → Goes 𝓤 H A W 𝓣 bs K G (‵ (Lies 𝓤 H A W b o (withRecords (back ++ rest n (t .blocks)) t)) ∷ holds 𝓤 H bs 1 (vptr b o) ∷ holds 𝓤 H bs 11 pv
+        ∷ holds 𝓤 H bs 7 (vint w64 n) ∷ holds 𝓤 H bs 12 ov ∷ holds 𝓤 H bs 13 cv ∷ empty 𝓤 H bs 34 ∷ empty 𝓤 H bs 35 ∷ empty 𝓤 H bs 33 ∷ Γ) t-27)
+        → Goes 𝓤 H A W 𝓣 bs K G (‵ (Lies 𝓤 H A W b o t) ∷ holds 𝓤 H bs 1 (vptr b o) ∷ holds 𝓤 H bs 11 rv ∷ holds 𝓤 H bs 7 (vint w64 n) ∷ empty 𝓤 H bs 12
+        ∷ empty 𝓤 H bs 13 ∷ empty 𝓤 H bs 34 ∷ empty 𝓤 H bs 35 ∷ empty 𝓤 H bs 33 ∷ Γ) t-22
     writes-blocks {Γ = Γ} g goes = record {
       prf =
-          qed W (‵ (Lies 𝓤 H A W b o t) ∷ holds 𝓤 H bs 1 (vptr b o) ∷ holds 𝓤 H bs 13 rv ∷ holds 𝓤 H bs 8 (vint w64 n) ∷ empty 𝓤 H bs 14
-          ∷ empty 𝓤 H bs 15 ∷ empty 𝓤 H bs 36 ∷ empty 𝓤 H bs 37 ∷ empty 𝓤 H bs 35 ∷ Γ) ∵
-          exec ! (𝓣 .C) (𝓣 .Λ) (En 𝓤 H bs) t-24 (atRet (En 𝓤 H bs) K) $
+          qed W (‵ (Lies 𝓤 H A W b o t) ∷ holds 𝓤 H bs 1 (vptr b o) ∷ holds 𝓤 H bs 11 rv ∷ holds 𝓤 H bs 7 (vint w64 n) ∷ empty 𝓤 H bs 12
+          ∷ empty 𝓤 H bs 13 ∷ empty 𝓤 H bs 34 ∷ empty 𝓤 H bs 35 ∷ empty 𝓤 H bs 33 ∷ Γ) ∵
+          exec ! (𝓣 .C) (𝓣 .Λ) (En 𝓤 H bs) t-22 (atRet (En 𝓤 H bs) K) $
           -- the outcome, the change, and the slice
-          rewrite ! 2 (λ (u : Val). holds 𝓤 H bs 13 u) (ap only (tells partial.the-type partial-laws.the-laws r (rv ∷ []) is)) refl $
+          rewrite ! 2 (λ (u : Val). holds 𝓤 H bs 11 u) (ap only (tells partial.the-type partial-laws.the-laws r (rv ∷ []) is)) refl $
           assigns ! (of-opd ! (load ! (from ! (fld ! outcome-field (stop !))) (look-in ! 2 (sub ! 0 outcome-field (whole !))))) (from ! (stop !))
           (init ! 4 refl (lawful outcome.the-type outcome-laws.the-laws 𝓤 H A W .typed (r .outcome) (ov ∷ []) is-o .0)) $
           assigns ! (of-opd ! (load ! (from ! (fld ! change-field (stop !))) (look-in ! 4 (sub ! 1 change-field (whole !))))) (from ! (stop !))
@@ -144,7 +144,7 @@ module _ {M : Type 1} (𝓤 : URA M) (H : Heap 𝓤) (A : Atoms 𝓤) (W : Given
           -- the call
           move ! (2 ∷ 0 ∷ []) $ use2 W (raw (ChangeBlocks 𝓤 H A W mem″ run .pre (to-write 𝓤 H A W mem″ run α (lending γ) c cv)))
           (write-may 𝓤 H A W mem″ run α (lending γ) c cv is-c) $
-          rewrite ! 9 (λ (m : ℕ). holds 𝓤 H bs 37 (sliceVal (b, first) m)) (sym long) refl $
+          rewrite ! 9 (λ (m : ℕ). holds 𝓤 H bs 35 (sliceVal (b, first) m)) (sym long) refl $
           calls-at ! (fmOf 𝓤 H (W .laws) 𝓣) (ChangeBlocks 𝓤 H A W mem″ run) known (to-write 𝓤 H A W mem″ run α (lending γ) c cv)
           (and-then ! (load ! (from ! (stop !)) (look ! 9 refl)) (and-then ! (load ! (from ! (stop !)) (look ! 7 refl)) (no-more !))) (λ v.
           use1 W (later (some (λ (e : Unit {0}). given (Is unit e (v ∷ [])) ((‵ (flft (α ∷ []) fullShare) ⊛ ‵ ftrue)
@@ -178,15 +178,15 @@ module _ {M : Type 1} (𝓤 : URA M) (H : Heap 𝓤) (A : Atoms 𝓤) (W : Given
     lending-domains γ = record { ptr = (b, second); name = γ; now = t .domains }
 
     pub writes-domains : {G : Type 0} {Γ : List (Item 𝓤)} → G
-        → Goes 𝓤 H A W 𝓣 bs K G (‵ (Lies 𝓤 H A W b o (withDomains (withOwner (c .domain) new (t .domains)) t)) ∷ holds 𝓤 H bs 1 (vptr b o) ∷ empty 𝓤 H bs 15 ∷ empty 𝓤 H bs 19
-        ∷ empty 𝓤 H bs 18 ∷ empty 𝓤 H bs 44 ∷ empty 𝓤 H bs 45 ∷ empty 𝓤 H bs 35 ∷ Γ) t-42
-        → Goes 𝓤 H A W 𝓣 bs K G (‵ (Lies 𝓤 H A W b o t) ∷ holds 𝓤 H bs 1 (vptr b o) ∷ holds 𝓤 H bs 15 cv ∷ empty 𝓤 H bs 19 ∷ holds 𝓤 H bs 18 dv ∷ empty 𝓤 H bs 44
-        ∷ empty 𝓤 H bs 45 ∷ empty 𝓤 H bs 35 ∷ Γ) t-38
+        → Goes 𝓤 H A W 𝓣 bs K G (‵ (Lies 𝓤 H A W b o (withDomains (withOwner (c .domain) new (t .domains)) t)) ∷ holds 𝓤 H bs 1 (vptr b o) ∷ empty 𝓤 H bs 13 ∷ empty 𝓤 H bs 17
+        ∷ empty 𝓤 H bs 16 ∷ empty 𝓤 H bs 42 ∷ empty 𝓤 H bs 43 ∷ empty 𝓤 H bs 33 ∷ Γ) t-40
+        → Goes 𝓤 H A W 𝓣 bs K G (‵ (Lies 𝓤 H A W b o t) ∷ holds 𝓤 H bs 1 (vptr b o) ∷ holds 𝓤 H bs 13 cv ∷ empty 𝓤 H bs 17 ∷ holds 𝓤 H bs 16 dv ∷ empty 𝓤 H bs 42
+        ∷ empty 𝓤 H bs 43 ∷ empty 𝓤 H bs 33 ∷ Γ) t-36
     writes-domains {Γ = Γ} g goes = record {
       prf =
-          qed W (‵ (Lies 𝓤 H A W b o t) ∷ holds 𝓤 H bs 1 (vptr b o) ∷ holds 𝓤 H bs 15 cv ∷ empty 𝓤 H bs 19 ∷ holds 𝓤 H bs 18 dv ∷ empty 𝓤 H bs 44
-          ∷ empty 𝓤 H bs 45 ∷ empty 𝓤 H bs 35 ∷ Γ) ∵
-          exec ! (𝓣 .C) (𝓣 .Λ) (En 𝓤 H bs) t-38 (atRet (En 𝓤 H bs) K) $
+          qed W (‵ (Lies 𝓤 H A W b o t) ∷ holds 𝓤 H bs 1 (vptr b o) ∷ holds 𝓤 H bs 13 cv ∷ empty 𝓤 H bs 17 ∷ holds 𝓤 H bs 16 dv ∷ empty 𝓤 H bs 42
+          ∷ empty 𝓤 H bs 43 ∷ empty 𝓤 H bs 33 ∷ Γ) ∵
+          exec ! (𝓣 .C) (𝓣 .Λ) (En 𝓤 H bs) t-36 (atRet (En 𝓤 H bs) K) $
           -- the place
           use0 W (raw (ChangedPlace 𝓤 H A W mem″ run .pre (to-place 𝓤 H A W mem″ run c cv))) (place-may 𝓤 H A W mem″ run c cv is-c) $
           calls-at ! (fmOf 𝓤 H (W .laws) 𝓣) (ChangedPlace 𝓤 H A W mem″ run) known (to-place 𝓤 H A W mem″ run c cv)
@@ -207,7 +207,7 @@ module _ {M : Type 1} (𝓤 : URA M) (H : Heap 𝓤) (A : Atoms 𝓤) (W : Given
           -- the call
           move ! (2 ∷ 0 ∷ []) $ use2 W (raw (PutDomain 𝓤 H A W mem″ run .pre (to-put 𝓤 H A W mem″ run α (lending-domains γ) i new nv dv)))
           (put-may 𝓤 H A W mem″ run α (lending-domains γ) i new nv dv is-i is-d) $
-          rewrite ! 8 (λ (m : ℕ). holds 𝓤 H bs 45 (sliceVal (b, second) m)) (sym sixteen) refl $
+          rewrite ! 8 (λ (m : ℕ). holds 𝓤 H bs 43 (sliceVal (b, second) m)) (sym sixteen) refl $
           calls-at ! (fmOf 𝓤 H (W .laws) 𝓣) (PutDomain 𝓤 H A W mem″ run) known-put (to-put 𝓤 H A W mem″ run α (lending-domains γ) i new nv dv)
           (and-then ! (load ! (from ! (stop !)) (look ! 8 refl)) (and-then ! (load ! (from ! (stop !)) (look ! 5 refl))
           (and-then ! (load ! (from ! (stop !)) (look ! 6 refl)) (no-more !)))) (λ v.

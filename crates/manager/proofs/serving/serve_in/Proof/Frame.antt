@@ -25,10 +25,8 @@ use Rattle.placements.proofs.rest.Partial.Laws as partial
 use Rattle.placements.proofs.rest.Rest.Laws as rest
 use Rattle.tables.proofs.change.Change.Laws as change
 use Rattle.tables.proofs.change.Outcome.Laws as outcome
-use Rattle.survey.proofs.scan.Ranges.Laws as ranges
-use Rattle.survey.proofs.scan.Subject.Laws as subject
-use Rattle.survey.proofs.sight.View.Laws as view
-use Rattle.manager.proofs.subjects.Beginning.Laws as beginning
+use Rattle.scan.proofs.scan.Subject.Laws as subject
+use Rattle.scan.proofs.summary.Summary.Laws as summary
 use Rattle.manager.proofs.serving.serve_in.Code as code
 
 -- A word, the marks, the records and the domains in a table, and one of them.
@@ -58,12 +56,10 @@ localTypes = answer.mir
     ∷ sliceTy (tyRef (named 2) mut word)
     ∷ sliceTy (tyRef (named 3) mut (tyInt w8))
     ∷ config.mir
-    ∷ beginning.mir
     ∷ word
     ∷ subject.mir
-    ∷ ranges.mir
     ∷ markArray
-    ∷ view.mir
+    ∷ summary.mir
     ∷ partial.mir
     ∷ outcome.mir
     ∷ change.mir
@@ -101,8 +97,7 @@ localTypes = answer.mir
 
 -- Only the marks, which are lent, need a place in memory.
 abbrev pub homes : List Home
-homes = valueLocal ∷ valueLocal ∷ valueLocal ∷ valueLocal ∷ valueLocal ∷ valueLocal ∷ valueLocal ∷ valueLocal ∷ valueLocal ∷ valueLocal ∷ valueLocal
-    ∷ memorySlot ∷ []
+homes = valueLocal ∷ valueLocal ∷ valueLocal ∷ valueLocal ∷ valueLocal ∷ valueLocal ∷ valueLocal ∷ valueLocal ∷ valueLocal ∷ memorySlot ∷ []
 
 pub locals-are : locs localTypes homes ≡ code.function .locals
 locals-are = refl

@@ -1,4 +1,4 @@
--- The store and the words are lent to `answered` for lifetimes of their own, and taken back: what it leaves to write will want them again.
+-- The store and the words are lent to `dispatch` for lifetimes of their own, and taken back: what it leaves to write will want them again.
 use Prim.Native.Nat.{ℕ, _<_, _^_}
 use mathlib.Core.List.{List, [], _∷_}
 use mathlib.Core.Path.{_≡_}
@@ -25,22 +25,22 @@ use Rattle.model.specs.declared.command.Command.{Command}
 use Rattle.model.proofs.command.Command as command
 use Rattle.placements.specs.declared.rest.Partial.{Partial}
 use Rattle.placements.proofs.rest.Partial as partial
-use Rattle.survey.specs.declared.sight.View.{View}
-use Rattle.survey.proofs.sight.View as view
-use Rattle.manager.specs.Answering.{Answered, Viewed}
-use Rattle.manager.proofs.serving.serve_in.Code.Mir.{t-15, t-24}
+use Rattle.scan.specs.declared.summary.Summary.{Summary}
+use Rattle.scan.proofs.summary.Summary as summary
+use Rattle.manager.specs.Answering.{Dispatched, Summarized}
+use Rattle.manager.proofs.serving.serve_in.Code.Mir.{t-13, t-22}
 use Rattle.manager.proofs.serving.serve_in.Proof.Answer.{answers}
-use Rattle.manager.proofs.serving.serve_in.Proof.Calls.{answered-name, Answers, Tokens, Slices, Lists, Lengths}
+use Rattle.manager.proofs.serving.serve_in.Proof.Calls.{dispatch-name, Answers, Tokens, Slices, Lists, Lengths}
 use Rattle.manager.proofs.serving.serve_in.Proof.Frame.{En, holds, empty}
 use Rattle.manager.proofs.serving.serve_in.Proof.InMemory.{marks}
 use Rattle.manager.proofs.serving.serve_in.Proof.Start.{Goes}
 
 module _ {M : Type 1} (𝓤 : URA M) (H : Heap 𝓤) (A : Atoms 𝓤) (W : Given 𝓤 H A) (𝓣 : Tables 𝓤 H) (bs : List ℕ) (K : Val → SProp 𝓤)
-    (mem″ : Memory → SProp 𝓤) (run : Routine → Fun 𝓤) (known : Triple 𝓤 (𝓣 .C answered-name) (Answers 𝓤 H A W mem″ run))
+    (mem″ : Memory → SProp 𝓤) (run : Routine → Fun 𝓤) (known : Triple 𝓤 (𝓣 .C dispatch-name) (Answers 𝓤 H A W mem″ run))
     (κ₁ κ₂ κ₃ : Lft) (q₁ q₂ q₃ : Share) (store words bytes : RefT (List ℕ))
     (store-fits : length (store .now) < 2 ^ 64) (words-fit : length (words .now) < 2 ^ 64) (bytes-fit : length (bytes .now) < 2 ^ 64)
-    (x : View) (ms : List ℕ) (k : Command) (xv mv kv : Val)
-    (is-x : Is view.the-row x (xv ∷ [])) (is-m : Is marks ms (mv ∷ [])) (is-k : Is command.the-row k (kv ∷ [])) (viewed : Viewed x k ms) where
+    (x : Summary) (ms : List ℕ) (k : Command) (xv mv kv : Val)
+    (is-x : Is summary.the-row x (xv ∷ [])) (is-m : Is marks ms (mv ∷ [])) (is-k : Is command.the-row k (kv ∷ [])) (summarized : Summarized x k ms) where
   abbrev Toks : SProp 𝓤
   Toks = Tokens 𝓤 H A W mem″ run κ₁ κ₂ κ₃ q₁ q₂ q₃ store words bytes
 
@@ -63,20 +63,20 @@ module _ {M : Type 1} (𝓤 : URA M) (H : Heap 𝓤) (A : Atoms 𝓤) (W : Given
 
   pub answers-lent : {G : Type 0} {Γ : List (Item 𝓤)} → G
       → ((r : Partial) (z : Lists 𝓤 H A W mem″ run κ₁ κ₂ κ₃ q₁ q₂ q₃ store words bytes) (rv : Val) → Is partial.the-row r (rv ∷ [])
-      → Answered x k ms (store .now) (words .now) (bytes .now) r (z .0) (z .1 .0) (z .1 .1)
+      → Dispatched x k ms (store .now) (words .now) (bytes .now) r (z .0) (z .1 .0) (z .1 .1)
       → Lengths 𝓤 H A W mem″ run κ₁ κ₂ κ₃ q₁ q₂ q₃ store words bytes z
-      → Goes 𝓤 H A W 𝓣 bs K G (empty 𝓤 H bs 12 ∷ empty 𝓤 H bs 11 ∷ empty 𝓤 H bs 2 ∷ holds 𝓤 H bs 3 (slice store) ∷ holds 𝓤 H bs 4 (slice words) ∷ empty 𝓤 H bs 5
-      ∷ empty 𝓤 H bs 27 ∷ empty 𝓤 H bs 28 ∷ empty 𝓤 H bs 29 ∷ empty 𝓤 H bs 30 ∷ empty 𝓤 H bs 31 ∷ empty 𝓤 H bs 32 ∷ empty 𝓤 H bs 33 ∷ empty 𝓤 H bs 34
-      ∷ holds 𝓤 H bs 13 rv ∷ ‵ (SliceAt u64 κ₁ q₁ store (z .0)) ∷ ‵ (SliceAt u64 κ₂ q₂ words (z .1 .0)) ∷ ‵ (flft κ₃ q₃) ∷ ‵ (fsep (finally u8 (bytes .name) (z .1 .1)) ftrue) ∷ Γ) t-24)
-      → Goes 𝓤 H A W 𝓣 bs K G (holds 𝓤 H bs 12 xv ∷ holds 𝓤 H bs 11 mv ∷ holds 𝓤 H bs 2 kv ∷ holds 𝓤 H bs 3 (slice store)
-      ∷ holds 𝓤 H bs 4 (slice words) ∷ holds 𝓤 H bs 5 (slice bytes) ∷ empty 𝓤 H bs 27 ∷ empty 𝓤 H bs 28 ∷ empty 𝓤 H bs 29 ∷ empty 𝓤 H bs 30 ∷ empty 𝓤 H bs 31
-      ∷ empty 𝓤 H bs 32 ∷ empty 𝓤 H bs 33 ∷ empty 𝓤 H bs 34 ∷ empty 𝓤 H bs 13 ∷ raw Toks ∷ ‵ Three ∷ Γ) t-15
+      → Goes 𝓤 H A W 𝓣 bs K G (empty 𝓤 H bs 10 ∷ empty 𝓤 H bs 9 ∷ empty 𝓤 H bs 2 ∷ holds 𝓤 H bs 3 (slice store) ∷ holds 𝓤 H bs 4 (slice words) ∷ empty 𝓤 H bs 5
+      ∷ empty 𝓤 H bs 25 ∷ empty 𝓤 H bs 26 ∷ empty 𝓤 H bs 27 ∷ empty 𝓤 H bs 28 ∷ empty 𝓤 H bs 29 ∷ empty 𝓤 H bs 30 ∷ empty 𝓤 H bs 31 ∷ empty 𝓤 H bs 32
+      ∷ holds 𝓤 H bs 11 rv ∷ ‵ (SliceAt u64 κ₁ q₁ store (z .0)) ∷ ‵ (SliceAt u64 κ₂ q₂ words (z .1 .0)) ∷ ‵ (flft κ₃ q₃) ∷ ‵ (fsep (finally u8 (bytes .name) (z .1 .1)) ftrue) ∷ Γ) t-22)
+      → Goes 𝓤 H A W 𝓣 bs K G (holds 𝓤 H bs 10 xv ∷ holds 𝓤 H bs 9 mv ∷ holds 𝓤 H bs 2 kv ∷ holds 𝓤 H bs 3 (slice store)
+      ∷ holds 𝓤 H bs 4 (slice words) ∷ holds 𝓤 H bs 5 (slice bytes) ∷ empty 𝓤 H bs 25 ∷ empty 𝓤 H bs 26 ∷ empty 𝓤 H bs 27 ∷ empty 𝓤 H bs 28 ∷ empty 𝓤 H bs 29
+      ∷ empty 𝓤 H bs 30 ∷ empty 𝓤 H bs 31 ∷ empty 𝓤 H bs 32 ∷ empty 𝓤 H bs 11 ∷ raw Toks ∷ ‵ Three ∷ Γ) t-13
   answers-lent {Γ = Γ} g goes = record {
     prf =
-        qed W (holds 𝓤 H bs 12 xv ∷ holds 𝓤 H bs 11 mv ∷ holds 𝓤 H bs 2 kv ∷ holds 𝓤 H bs 3 (slice store)
-        ∷ holds 𝓤 H bs 4 (slice words) ∷ holds 𝓤 H bs 5 (slice bytes) ∷ empty 𝓤 H bs 27 ∷ empty 𝓤 H bs 28 ∷ empty 𝓤 H bs 29 ∷ empty 𝓤 H bs 30 ∷ empty 𝓤 H bs 31
-        ∷ empty 𝓤 H bs 32 ∷ empty 𝓤 H bs 33 ∷ empty 𝓤 H bs 34 ∷ empty 𝓤 H bs 13 ∷ raw Toks ∷ ‵ Three ∷ Γ) ∵
-        exec ! (𝓣 .C) (𝓣 .Λ) (En 𝓤 H bs) t-15 (atRet (En 𝓤 H bs) K) $
+        qed W (holds 𝓤 H bs 10 xv ∷ holds 𝓤 H bs 9 mv ∷ holds 𝓤 H bs 2 kv ∷ holds 𝓤 H bs 3 (slice store)
+        ∷ holds 𝓤 H bs 4 (slice words) ∷ holds 𝓤 H bs 5 (slice bytes) ∷ empty 𝓤 H bs 25 ∷ empty 𝓤 H bs 26 ∷ empty 𝓤 H bs 27 ∷ empty 𝓤 H bs 28 ∷ empty 𝓤 H bs 29
+        ∷ empty 𝓤 H bs 30 ∷ empty 𝓤 H bs 31 ∷ empty 𝓤 H bs 32 ∷ empty 𝓤 H bs 11 ∷ raw Toks ∷ ‵ Three ∷ Γ) ∵
+        exec ! (𝓣 .C) (𝓣 .Λ) (En 𝓤 H bs) t-13 (atRet (En 𝓤 H bs) K) $
         -- the slices with their tokens
         move ! (15 ∷ 16 ∷ []) $ use1 W (Each κ₁ κ₂ q₁ q₂) (id⊢ 𝓤 _) $ split ! $ move ! (1 ∷ []) $ split ! $ move ! (1 ∷ []) $ split ! $
         move ! (4 ∷ []) $ fsplit ! $ move ! (0 ∷ 5 ∷ []) $ use2 W (‵ (SliceAt u64 κ₁ q₁ store (store .now))) (slice-in u64 κ₁ q₁ store 𝓤 H A W 1 (store .now) (slice store)) $
@@ -91,14 +91,14 @@ module _ {M : Type 1} (𝓤 : URA M) (H : Heap 𝓤) (A : Atoms 𝓤) (W : Given
         move ! (5 ∷ 6 ∷ []) $ join ! $ move ! (3 ∷ 0 ∷ []) $ join ! $ move ! (4 ∷ 0 ∷ []) $ join ! $
         move ! (4 ∷ 5 ∷ 6 ∷ 7 ∷ 8 ∷ 9 ∷ 10 ∷ 11 ∷ 12 ∷ 13 ∷ 14 ∷ 15 ∷ 16 ∷ 17 ∷ 18 ∷ 0 ∷ 1 ∷ []) $
         by ! (answers 𝓤 H A W 𝓣 bs K mem″ run known (a₁ .0 ∷ []) (a₂ .0 ∷ []) κ₃ fullShare fullShare q₃ (store-lent a₁) (words-lent a₂) bytes store-fits words-fit bytes-fit x ms k
-        xv mv kv is-x is-m is-k viewed {Γ = ‵ (KeptOf u64 κ₂ q₂ words a₂ (words .now)) ∷ ‵ (KeptOf u64 κ₁ q₁ store a₁ (store .now)) ∷ Γ} g (λ r z rv is-r said long. record {
+        xv mv kv is-x is-m is-k summarized {Γ = ‵ (KeptOf u64 κ₂ q₂ words a₂ (words .now)) ∷ ‵ (KeptOf u64 κ₁ q₁ store a₁ (store .now)) ∷ Γ} g (λ r z rv is-r said long. record {
           prf =
-              qed W (empty 𝓤 H bs 12 ∷ empty 𝓤 H bs 11 ∷ empty 𝓤 H bs 2 ∷ holds 𝓤 H bs 3 (slice store) ∷ holds 𝓤 H bs 4 (slice words) ∷ empty 𝓤 H bs 5
-              ∷ empty 𝓤 H bs 27 ∷ empty 𝓤 H bs 28 ∷ empty 𝓤 H bs 29 ∷ empty 𝓤 H bs 30 ∷ empty 𝓤 H bs 31 ∷ empty 𝓤 H bs 32 ∷ empty 𝓤 H bs 33 ∷ empty 𝓤 H bs 34
-              ∷ holds 𝓤 H bs 13 rv ∷ Each (a₁ .0 ∷ []) (a₂ .0 ∷ []) fullShare fullShare
+              qed W (empty 𝓤 H bs 10 ∷ empty 𝓤 H bs 9 ∷ empty 𝓤 H bs 2 ∷ holds 𝓤 H bs 3 (slice store) ∷ holds 𝓤 H bs 4 (slice words) ∷ empty 𝓤 H bs 5
+              ∷ empty 𝓤 H bs 25 ∷ empty 𝓤 H bs 26 ∷ empty 𝓤 H bs 27 ∷ empty 𝓤 H bs 28 ∷ empty 𝓤 H bs 29 ∷ empty 𝓤 H bs 30 ∷ empty 𝓤 H bs 31 ∷ empty 𝓤 H bs 32
+              ∷ holds 𝓤 H bs 11 rv ∷ Each (a₁ .0 ∷ []) (a₂ .0 ∷ []) fullShare fullShare
               ∷ ‵ (fsep (finally u64 (a₁ .1) (z .0)) (fsep (finally u64 (a₂ .1) (z .1 .0)) (fsep (finally u8 (bytes .name) (z .1 .1)) ftrue)))
               ∷ ‵ (KeptOf u64 κ₂ q₂ words a₂ (words .now)) ∷ ‵ (KeptOf u64 κ₁ q₁ store a₁ (store .now)) ∷ Γ) ∵
-              exec ! (𝓣 .C) (𝓣 .Λ) (En 𝓤 H bs) t-24 (atRet (En 𝓤 H bs) K) $
+              exec ! (𝓣 .C) (𝓣 .Λ) (En 𝓤 H bs) t-22 (atRet (En 𝓤 H bs) K) $
               -- they are taken back
               move ! (15 ∷ 16 ∷ 17 ∷ 18 ∷ []) $ split ! $ move ! (1 ∷ []) $ split ! $ move ! (1 ∷ []) $ split ! $ move ! (4 ∷ []) $ fsplit ! $ move ! (5 ∷ 7 ∷ 0 ∷ []) $
               use3 W (later (given (length (z .0) ≡ length (store .now)) (‵ (SliceAt u64 κ₁ q₁ store (z .0))))) (slice-back u64 κ₁ q₁ store 𝓤 H A W a₁ (store .now) (z .0)) $

@@ -1,4 +1,4 @@
--- The call of `looked`: the first records of the table are lent as a `&[Block]`, all its domains as a `&[Domain]` and the marks as a `&mut [u16]`, each for a
+-- The call of `summarize`: the first records of the table are lent as a `&[Block]`, all its domains as a `&[Domain]` and the marks as a `&mut [u16]`, each for a
 -- lifetime that is made for the call. Of the table one half is lent with the records, and the other with the domains. Once the lifetimes are ended the table is
 -- as it was, and the marks are as the contract says.
 use Prim.Native.Nat.{ℕ, _≤_, _+_}
@@ -42,26 +42,24 @@ use Rattle.model.specs.declared.table.Domain.{Domain}
 use Rattle.model.specs.declared.table.Table.{Table}
 use Rattle.model.proofs.block.Block as block
 use Rattle.model.proofs.table.Domain as domain
-use Rattle.survey.specs.declared.scan.Ranges.{Ranges}
-use Rattle.survey.specs.declared.scan.Subject.{Subject}
-use Rattle.survey.specs.declared.sight.View.{View}
-use Rattle.survey.proofs.scan.Ranges as ranges
-use Rattle.survey.proofs.scan.Subject as subject
-use Rattle.survey.proofs.sight.View as view
-use Rattle.survey.proofs.sight.View.Laws as view-laws
+use Rattle.scan.specs.declared.scan.Subject.{Subject}
+use Rattle.scan.specs.declared.summary.Summary.{Summary}
+use Rattle.scan.proofs.scan.Subject as subject
+use Rattle.scan.proofs.summary.Summary as summary
+use Rattle.scan.proofs.summary.Summary.Laws as summary-laws
 use Rattle.manager.specs.Looking.{Looked}
-use Rattle.manager.proofs.serving.serve_in.Code.Mir.{t-8, t-15}
-use Rattle.manager.proofs.serving.serve_in.Proof.Calls.{looked-name, LooksAt, Seen, SeenDomains, Marks, to-look, look-may, look-gives}
+use Rattle.manager.proofs.serving.serve_in.Code.Mir.{t-6, t-13}
+use Rattle.manager.proofs.serving.serve_in.Proof.Calls.{look-name, LooksAt, Seen, SeenDomains, Marks, to-look, look-may, look-gives}
 use Rattle.manager.proofs.serving.serve_in.Proof.Frame.{En, place, holds, empty}
 use Rattle.manager.proofs.serving.serve_in.Proof.InMemory.{marks, withRecords, blocksAt, domainsAt, blocks-field, domains-field, marks-apart, marks-whole}
 use Rattle.manager.proofs.serving.serve_in.Proof.InMemory.{Lies, LiesFor, LieBlocks, LieDomains, left, right, Rest, Beside, blocks-out, blocks-in, domains-out, domains-in, in-halves, of-halves}
 use Rattle.manager.proofs.serving.serve_in.Proof.Start.{Goes}
 
 module _ {M : Type 1} (𝓤 : URA M) (H : Heap 𝓤) (A : Atoms 𝓤) (W : Given 𝓤 H A) (𝓣 : Tables 𝓤 H) (bs : List ℕ) (K : Val → SProp 𝓤)
-    (mem″ : Memory → SProp 𝓤) (run : Routine → Fun 𝓤) (known : Triple 𝓤 (𝓣 .C looked-name) (LooksAt 𝓤 H A W mem″ run))
+    (mem″ : Memory → SProp 𝓤) (run : Routine → Fun 𝓤) (known : Triple 𝓤 (𝓣 .C look-name) (LooksAt 𝓤 H A W mem″ run))
     (b o : ℕ) (t : Table) (n : ℕ) (sixteen : length (t .domains) ≡ 16) (all : length (t .blocks) ≡ 256) (few : n ≤ 256)
-    (s : Subject) (p : Ranges) (ms : List ℕ) (cv sv pv mv : Val)
-    (is-c : Is config.the-row (t .config) (cv ∷ [])) (is-s : Is subject.the-row s (sv ∷ [])) (is-p : Is ranges.the-row p (pv ∷ [])) (is-m : Is marks ms (mv ∷ [])) (free-few : p .free ≤ n) (list-few : p .list ≤ n) where
+    (s : Subject) (ms : List ℕ) (cv sv mv : Val)
+    (is-c : Is config.the-row (t .config) (cv ∷ [])) (is-s : Is subject.the-row s (sv ∷ [])) (is-m : Is marks ms (mv ∷ [])) where
   -- The records that are lent, how many they are, and that they have room; the domains and the marks have it too.
   abbrev lent : List Block
   lent = take n (t .blocks)
@@ -89,7 +87,7 @@ module _ {M : Type 1} (𝓤 : URA M) (H : Heap 𝓤) (A : Atoms 𝓤) (W : Given
   second = o + domainsAt
 
   abbrev l : ℕ
-  l = place 11 bs
+  l = place 9 bs
 
   -- The three references that are passed.
   abbrev seen : GName → RefT (List Block)
@@ -110,31 +108,31 @@ module _ {M : Type 1} (𝓤 : URA M) (H : Heap 𝓤) (A : Atoms 𝓤) (W : Given
 
   -- A call with the records lent for α under γ, the domains for β under γ′, and the marks for δ under γ″.
   abbrev to : (α β δ : ℕ) (γ γ′ γ″ : GName) → LooksAt 𝓤 H A W mem″ run .Ghost
-  to α β δ γ γ′ γ″ = to-look 𝓤 H A W mem″ run α β δ (seen γ) (seeing γ′) (t .config) s p (marking γ″) cv sv pv
+  to α β δ γ γ′ γ″ = to-look 𝓤 H A W mem″ run α β δ (seen γ) (seeing γ′) (t .config) s (marking γ″) cv sv
 
   pub looks : {G : Type 0} {Γ : List (Item 𝓤)} → G
-      → ((r : View) (zs : List ℕ) (rv zv : Val) → Is view.the-row r (rv ∷ []) → Is marks zs (zv ∷ []) → Looked (t .config) s p lent (t .domains) ms r zs
-      → Goes 𝓤 H A W 𝓣 bs K G (‵ (Lies 𝓤 H A W b o t) ∷ holds 𝓤 H bs 1 (vptr b o) ∷ holds 𝓤 H bs 8 (vint w64 n) ∷ holds 𝓤 H bs 6 cv ∷ empty 𝓤 H bs 9 ∷ empty 𝓤 H bs 10
-      ∷ holds 𝓤 H bs 11 zv ∷ empty 𝓤 H bs 21 ∷ empty 𝓤 H bs 22 ∷ empty 𝓤 H bs 23 ∷ empty 𝓤 H bs 24 ∷ empty 𝓤 H bs 25 ∷ empty 𝓤 H bs 26 ∷ holds 𝓤 H bs 12 rv ∷ Γ) t-15)
-      → Goes 𝓤 H A W 𝓣 bs K G (‵ (Lies 𝓤 H A W b o t) ∷ holds 𝓤 H bs 1 (vptr b o) ∷ holds 𝓤 H bs 8 (vint w64 n) ∷ holds 𝓤 H bs 6 cv ∷ holds 𝓤 H bs 9 sv ∷ holds 𝓤 H bs 10 pv
-      ∷ holds 𝓤 H bs 11 mv ∷ empty 𝓤 H bs 21 ∷ empty 𝓤 H bs 22 ∷ empty 𝓤 H bs 23 ∷ empty 𝓤 H bs 24 ∷ empty 𝓤 H bs 25 ∷ empty 𝓤 H bs 26 ∷ empty 𝓤 H bs 12 ∷ Γ) t-8
+      → ((r : Summary) (zs : List ℕ) (rv zv : Val) → Is summary.the-row r (rv ∷ []) → Is marks zs (zv ∷ []) → Looked (t .config) s lent (t .domains) ms r zs
+      → Goes 𝓤 H A W 𝓣 bs K G (‵ (Lies 𝓤 H A W b o t) ∷ holds 𝓤 H bs 1 (vptr b o) ∷ holds 𝓤 H bs 7 (vint w64 n) ∷ holds 𝓤 H bs 6 cv ∷ empty 𝓤 H bs 8
+      ∷ holds 𝓤 H bs 9 zv ∷ empty 𝓤 H bs 19 ∷ empty 𝓤 H bs 20 ∷ empty 𝓤 H bs 21 ∷ empty 𝓤 H bs 22 ∷ empty 𝓤 H bs 23 ∷ empty 𝓤 H bs 24 ∷ holds 𝓤 H bs 10 rv ∷ Γ) t-13)
+      → Goes 𝓤 H A W 𝓣 bs K G (‵ (Lies 𝓤 H A W b o t) ∷ holds 𝓤 H bs 1 (vptr b o) ∷ holds 𝓤 H bs 7 (vint w64 n) ∷ holds 𝓤 H bs 6 cv ∷ holds 𝓤 H bs 8 sv
+      ∷ holds 𝓤 H bs 9 mv ∷ empty 𝓤 H bs 19 ∷ empty 𝓤 H bs 20 ∷ empty 𝓤 H bs 21 ∷ empty 𝓤 H bs 22 ∷ empty 𝓤 H bs 23 ∷ empty 𝓤 H bs 24 ∷ empty 𝓤 H bs 10 ∷ Γ) t-6
   looks {Γ = Γ} g goes = record {
     prf =
-        qed W (‵ (Lies 𝓤 H A W b o t) ∷ holds 𝓤 H bs 1 (vptr b o) ∷ holds 𝓤 H bs 8 (vint w64 n) ∷ holds 𝓤 H bs 6 cv ∷ holds 𝓤 H bs 9 sv ∷ holds 𝓤 H bs 10 pv
-        ∷ holds 𝓤 H bs 11 mv ∷ empty 𝓤 H bs 21 ∷ empty 𝓤 H bs 22 ∷ empty 𝓤 H bs 23 ∷ empty 𝓤 H bs 24 ∷ empty 𝓤 H bs 25 ∷ empty 𝓤 H bs 26 ∷ empty 𝓤 H bs 12 ∷ Γ) ∵
-        exec ! (𝓣 .C) (𝓣 .Λ) (En 𝓤 H bs) t-8 (atRet (En 𝓤 H bs) K) $
+        qed W (‵ (Lies 𝓤 H A W b o t) ∷ holds 𝓤 H bs 1 (vptr b o) ∷ holds 𝓤 H bs 7 (vint w64 n) ∷ holds 𝓤 H bs 6 cv ∷ holds 𝓤 H bs 8 sv
+        ∷ holds 𝓤 H bs 9 mv ∷ empty 𝓤 H bs 19 ∷ empty 𝓤 H bs 20 ∷ empty 𝓤 H bs 21 ∷ empty 𝓤 H bs 22 ∷ empty 𝓤 H bs 23 ∷ empty 𝓤 H bs 24 ∷ empty 𝓤 H bs 10 ∷ Γ) ∵
+        exec ! (𝓣 .C) (𝓣 .Λ) (En 𝓤 H bs) t-6 (atRet (En 𝓤 H bs) K) $
         -- the three slices
-        assigns ! (addr ! (from ! (hop ! (look ! 1 refl) (fld ! blocks-field (stop !))))) (from ! (stop !)) (init ! 7 refl (tt, tt)) $
-        assigns ! (agg ! (and-then ! (load ! (from ! (stop !)) (look ! 7 refl)) (and-then ! (load ! (from ! (stop !)) (look ! 2 refl)) (no-more !))))
-        (from ! (stop !)) (init ! 8 refl (tt, (tt, (record { fits = omega (arith, few) }, tt)))) $
-        assigns ! (addr ! (from ! (hop ! (look ! 1 refl) (fld ! domains-field (stop !))))) (from ! (stop !)) (init ! 9 refl (tt, tt)) $
-        assigns ! (agg ! (and-then ! (load ! (from ! (stop !)) (look ! 9 refl)) (and-then ! (lit ! tt) (no-more !))))
-        (from ! (stop !)) (init ! 10 refl (tt, (tt, (record { fits = lit< tt }, tt)))) $
-        assigns ! (addr ! (from ! (stop !))) (from ! (stop !)) (init ! 11 refl (tt, tt)) $
-        assigns ! (agg ! (and-then ! (load ! (from ! (stop !)) (look ! 11 refl)) (and-then ! (lit ! tt) (no-more !))))
-        (from ! (stop !)) (init ! 12 refl (tt, (tt, (record { fits = lit< tt }, tt)))) $
+        assigns ! (addr ! (from ! (hop ! (look ! 1 refl) (fld ! blocks-field (stop !))))) (from ! (stop !)) (init ! 6 refl (tt, tt)) $
+        assigns ! (agg ! (and-then ! (load ! (from ! (stop !)) (look ! 6 refl)) (and-then ! (load ! (from ! (stop !)) (look ! 2 refl)) (no-more !))))
+        (from ! (stop !)) (init ! 7 refl (tt, (tt, (record { fits = omega (arith, few) }, tt)))) $
+        assigns ! (addr ! (from ! (hop ! (look ! 1 refl) (fld ! domains-field (stop !))))) (from ! (stop !)) (init ! 8 refl (tt, tt)) $
+        assigns ! (agg ! (and-then ! (load ! (from ! (stop !)) (look ! 8 refl)) (and-then ! (lit ! tt) (no-more !))))
+        (from ! (stop !)) (init ! 9 refl (tt, (tt, (record { fits = lit< tt }, tt)))) $
+        assigns ! (addr ! (from ! (stop !))) (from ! (stop !)) (init ! 10 refl (tt, tt)) $
+        assigns ! (agg ! (and-then ! (load ! (from ! (stop !)) (look ! 10 refl)) (and-then ! (lit ! tt) (no-more !))))
+        (from ! (stop !)) (init ! 11 refl (tt, (tt, (record { fits = lit< tt }, tt)))) $
         -- the marks are lent, ..
-        move ! (6 ∷ []) $ use1 W (‵ (cells (mem u16) ms l 0)) (marks-apart 𝓤 H A W l ms mv is-m) $ lft-new ! tt (λ δ. move ! (1 ∷ []) $
+        move ! (5 ∷ []) $ use1 W (‵ (cells (mem u16) ms l 0)) (marks-apart 𝓤 H A W l ms mv is-m) $ lft-new ! tt (λ δ. move ! (1 ∷ []) $
         use1 W (later (some (λ (γ″ : GName). ‵ (Marks δ (marking γ″)) ⊛ ‵ (flent (δ ∷ []) (Held u16 (length ms) l 0 γ″)))))
         (lends-slice 𝓤 H A W u16 (named 2) (δ ∷ []) ms l 0 marked) $ await ! tt $ pick ! (λ γ″. split ! $
         -- .. the records, ..
@@ -153,22 +151,20 @@ module _ {M : Type 1} (𝓤 : URA M) (H : Heap 𝓤) (A : Atoms 𝓤) (W : Given
         -- the call
         move ! (2 ∷ 10 ∷ []) $ join ! $ move ! (6 ∷ 0 ∷ []) $ join ! $ move ! (1 ∷ 7 ∷ []) $ join ! $ move ! (1 ∷ 4 ∷ 0 ∷ []) $
         use3 W (raw (LooksAt 𝓤 H A W mem″ run .pre (to α β δ γ γ′ γ″)))
-        (look-may 𝓤 H A W mem″ run α β δ (seen γ) (seeing γ′) (t .config) s p (marking γ″) cv sv pv is-c is-s is-p (omega (arith, long, few)) sixteen each
-        (omega (arith, long, free-few)) (omega (arith, long, list-few))) $
-        rewrite ! 12 (λ (m : ℕ). holds 𝓤 H bs 22 (sliceVal (b, first) m)) (sym long) refl $
-        rewrite ! 14 (λ (m : ℕ). holds 𝓤 H bs 24 (sliceVal (b, second) m)) (sym sixteen) refl $
-        rewrite ! 16 (λ (m : ℕ). holds 𝓤 H bs 26 (sliceVal (l, 0) m)) (sym each) refl $
+        (look-may 𝓤 H A W mem″ run α β δ (seen γ) (seeing γ′) (t .config) s (marking γ″) cv sv is-c is-s (omega (arith, long, few)) sixteen each) $
+        rewrite ! 11 (λ (m : ℕ). holds 𝓤 H bs 20 (sliceVal (b, first) m)) (sym long) refl $
+        rewrite ! 13 (λ (m : ℕ). holds 𝓤 H bs 22 (sliceVal (b, second) m)) (sym sixteen) refl $
+        rewrite ! 15 (λ (m : ℕ). holds 𝓤 H bs 24 (sliceVal (l, 0) m)) (sym each) refl $
         calls-at ! (fmOf 𝓤 H (W .laws) 𝓣) (LooksAt 𝓤 H A W mem″ run) known (to α β δ γ γ′ γ″)
-        (and-then ! (load ! (from ! (stop !)) (look ! 12 refl)) (and-then ! (load ! (from ! (stop !)) (look ! 14 refl)) (and-then ! (load ! (from ! (stop !)) (look ! 8 refl))
-        (and-then ! (load ! (from ! (stop !)) (look ! 9 refl)) (and-then ! (load ! (from ! (stop !)) (look ! 10 refl)) (and-then ! (load ! (from ! (stop !)) (look ! 16 refl))
-        (no-more !))))))) (λ v.
-        use1 W (later (some (λ (r : View). given (Is view.the-row r (v ∷ []))
+        (and-then ! (load ! (from ! (stop !)) (look ! 11 refl)) (and-then ! (load ! (from ! (stop !)) (look ! 13 refl)) (and-then ! (load ! (from ! (stop !)) (look ! 8 refl))
+        (and-then ! (load ! (from ! (stop !)) (look ! 9 refl)) (and-then ! (load ! (from ! (stop !)) (look ! 15 refl)) (no-more !)))))) (λ v.
+        use1 W (later (some (λ (r : Summary). given (Is summary.the-row r (v ∷ []))
         ((‵ (flft (α ∷ []) fullShare) ⊛ (‵ (flft (β ∷ []) fullShare) ⊛ (‵ (flft (δ ∷ []) fullShare) ⊛ ‵ ftrue)))
-        ⊛ some (λ (zs : List ℕ). given (Looked (t .config) s p lent (t .domains) ms r zs × (length zs ≡ length ms)) (‵ (finally u16 γ″ zs)))))))
-        (look-gives 𝓤 H A W mem″ run α β δ (seen γ) (seeing γ′) (t .config) s p (marking γ″) cv sv pv v) $ await ! tt $ pick ! (λ r. learn ! (λ is-r. split ! $ move ! (1 ∷ []) $
+        ⊛ some (λ (zs : List ℕ). given (Looked (t .config) s lent (t .domains) ms r zs × (length zs ≡ length ms)) (‵ (finally u16 γ″ zs)))))))
+        (look-gives 𝓤 H A W mem″ run α β δ (seen γ) (seeing γ′) (t .config) s (marking γ″) cv sv v) $ await ! tt $ pick ! (λ r. learn ! (λ is-r. split ! $ move ! (1 ∷ []) $
         pick ! (λ zs. learn ! (λ f. move ! (1 ∷ []) $ split ! $ move ! (1 ∷ []) $ split ! $ move ! (1 ∷ []) $ split ! $
-        land ! (from ! (stop !)) (init ! 21 refl (lawful view.the-type view-laws.the-laws 𝓤 H A W .typed r (v ∷ []) is-r .0)) $
-        forget ! 13 refl $ forget ! 14 refl $ forget ! 15 refl $ forget ! 16 refl $ forget ! 17 refl $ forget ! 18 refl $ forget ! 19 refl $ forget ! 20 refl $
+        land ! (from ! (stop !)) (init ! 20 refl (lawful summary.the-type summary-laws.the-laws 𝓤 H A W .typed r (v ∷ []) is-r .0)) $
+        forget ! 13 refl $ forget ! 14 refl $ forget ! 15 refl $ forget ! 16 refl $ forget ! 17 refl $ forget ! 18 refl $ forget ! 19 refl $
         move ! (1 ∷ []) $ drop ! $
         -- the records are put back, ..
         move ! (2 ∷ []) $ lft-end ! tt $ move ! (0 ∷ 6 ∷ []) $ lent-back ! tt $ fsplit ! $ drop ! $
@@ -183,6 +179,6 @@ module _ {M : Type 1} (𝓤 : URA M) (H : Heap 𝓤) (A : Atoms 𝓤) (W : Given
         -- .. and the marks
         move ! (1 ∷ []) $ lft-end ! tt $ move ! (0 ∷ 3 ∷ 2 ∷ []) $
         use3 W (later (‵ (Arr (mem u16) (length ms) .lies zs l 0))) (slice-back 𝓤 H A W u16 (δ ∷ []) γ″ zs (length ms) l 0) $ await ! tt $ fsplit ! $ drop ! $
-        use1 W (some (λ (u : Val). given (Is marks zs (u ∷ [])) (holds 𝓤 H bs 11 u))) (marks-whole 𝓤 H A W l zs (f .1 ∙ each)) $ pick ! (λ u. learn ! (λ is-z.
-        move ! (1 ∷ 2 ∷ 3 ∷ 4 ∷ 5 ∷ 6 ∷ 0 ∷ []) $ by ! (goes r zs v u is-r is-z (f .0) .prf))))))))))))));
+        use1 W (some (λ (u : Val). given (Is marks zs (u ∷ [])) (holds 𝓤 H bs 9 u))) (marks-whole 𝓤 H A W l zs (f .1 ∙ each)) $ pick ! (λ u. learn ! (λ is-z.
+        move ! (1 ∷ 2 ∷ 3 ∷ 4 ∷ 5 ∷ 0 ∷ []) $ by ! (goes r zs v u is-r is-z (f .0) .prf))))))))))))));
   }

@@ -40,7 +40,7 @@ use Rattle.model.specs.declared.table.Table.{Table}
 use Rattle.model.proofs.block.Block as block
 use Rattle.model.proofs.table.Domain as domain
 use Rattle.model.proofs.table.Domain.Laws as domain-laws
-use Rattle.placements.specs.Onwards.{MayGoOn, WrittenOn, restWritten}
+use Rattle.placements.specs.Onwards.{MayGoOn, WroteOnwards, restWritten}
 use Rattle.placements.specs.declared.rest.Partial.{Partial}
 use Rattle.placements.proofs.rest.Partial as partial
 use Rattle.placements.proofs.rest.Partial.Laws as partial-laws
@@ -52,7 +52,7 @@ use Rattle.tables.specs.Serving.{drive}
 use Rattle.tables.specs.declared.change.Change.{Change}
 use Rattle.tables.proofs.change.Change as change
 use Rattle.tables.proofs.change.Change.Laws as change-laws
-use Rattle.manager.proofs.serving.serve_in.Code.Mir.{t-29, t-38}
+use Rattle.manager.proofs.serving.serve_in.Code.Mir.{t-27, t-36}
 use Rattle.manager.proofs.serving.serve_in.Proof.Calls.{onwards-name, WritesOn, LentBlocks, LentStore, LentWords, to-onwards, onwards-may, onwards-gives}
 use Rattle.manager.proofs.serving.serve_in.Proof.Frame.{En, holds, empty}
 use Rattle.manager.proofs.serving.serve_in.Proof.InMemory.{withRecords, Lies, LieBlocks, blocksAt, blocks-field, Rest, blocks-out, blocks-in}
@@ -153,14 +153,14 @@ module _ {M : Type 1} (𝓤 : URA M) (H : Heap 𝓤) (A : Atoms 𝓤) (W : Given
 
   -- What is known of the records, the record of the owner, the entries and the words afterwards.
   abbrev pub Went : Domain → List Block × (List ℕ × List ℕ) → Type 0
-  Went w′ z = WrittenOn (t .config) (c .domain) (r .rest) lent (c .owner) ss ws (z .0) w′ (z .1 .0) (z .1 .1)
+  Went w′ z = WroteOnwards (t .config) (c .domain) (r .rest) lent (c .owner) ss ws (z .0) w′ (z .1 .0) (z .1 .1)
 
   abbrev Long : List Block × (List ℕ × List ℕ) → Type 0
   Long z = (length (z .0) ≡ length lent) × ((length (z .1 .0) ≡ length ss) × (length (z .1 .1) ≡ length ws))
 
   back-is : (w′ : Domain) (z : List Block × (List ℕ × List ℕ)) → Went w′ z → Long z → z .0 ≡ back
   back-is w′ z f l =
-      sym (front-is n (z .0) _ (l .0 ∙ long)) ∙ ap (λ (v : Drive). take n (v .table .blocks)) (f t₁ refl sixteen .leaves)
+      sym (front-is n (z .0) _ (l .0 ∙ long)) ∙ ap (λ (v : Drive). take n (v .table .blocks)) (f .1 t₁ refl sixteen .leaves)
 
   table-is : (w′ : Domain) (z : List Block × (List ℕ × List ℕ)) → Went w′ z → Long z → withRecords (back ++ rest n (t₁ .blocks)) t₁ ≡ withRecords (z .0 ++ rest n (t .blocks)) t
   table-is w′ z f l =
@@ -169,21 +169,21 @@ module _ {M : Type 1} (𝓤 : URA M) (H : Heap 𝓤) (A : Atoms 𝓤) (W : Given
 
   pub writes-onwards : {G : Type 0} {Γ : List (Item 𝓤)} → G
       → ((w′ : Domain) (z : List Block × (List ℕ × List ℕ)) (v : Val) → Is domain.the-row w′ (v ∷ [])
-      → WrittenOn (t .config) (c .domain) (r .rest) recs (c .owner) ss ws (z .0) w′ (z .1 .0) (z .1 .1)
+      → WroteOnwards (t .config) (c .domain) (r .rest) recs (c .owner) ss ws (z .0) w′ (z .1 .0) (z .1 .1)
       → (length (z .1 .0) ≡ length ss) × (length (z .1 .1) ≡ length ws)
-      → Goes 𝓤 H A W 𝓣 bs K G (‵ (Lies 𝓤 H A W b o (withRecords (z .0 ++ rest n (t .blocks)) t)) ∷ holds 𝓤 H bs 1 (vptr b o) ∷ holds 𝓤 H bs 13 pv ∷ holds 𝓤 H bs 15 cv
-      ∷ empty 𝓤 H bs 8 ∷ empty 𝓤 H bs 6 ∷ empty 𝓤 H bs 3 ∷ empty 𝓤 H bs 4 ∷ empty 𝓤 H bs 16 ∷ empty 𝓤 H bs 17 ∷ holds 𝓤 H bs 18 v ∷ empty 𝓤 H bs 38
-      ∷ empty 𝓤 H bs 39 ∷ empty 𝓤 H bs 40 ∷ empty 𝓤 H bs 41 ∷ empty 𝓤 H bs 42 ∷ empty 𝓤 H bs 43 ∷ ‵ (finally u64 (store .name) (z .1 .0))
-      ∷ ‵ (finally u64 (words .name) (z .1 .1)) ∷ ‵ (flft κ₁ q₁) ∷ ‵ (flft κ₂ q₂) ∷ Γ) t-38)
-      → Goes 𝓤 H A W 𝓣 bs K G (‵ (Lies 𝓤 H A W b o t₁) ∷ holds 𝓤 H bs 1 (vptr b o) ∷ holds 𝓤 H bs 13 pv ∷ holds 𝓤 H bs 15 cv ∷ holds 𝓤 H bs 8 (vint w64 n)
-      ∷ holds 𝓤 H bs 6 fv ∷ holds 𝓤 H bs 3 (slice store) ∷ holds 𝓤 H bs 4 (slice words) ∷ empty 𝓤 H bs 16 ∷ empty 𝓤 H bs 17 ∷ empty 𝓤 H bs 18 ∷ empty 𝓤 H bs 38
-      ∷ empty 𝓤 H bs 39 ∷ empty 𝓤 H bs 40 ∷ empty 𝓤 H bs 41 ∷ empty 𝓤 H bs 42 ∷ empty 𝓤 H bs 43 ∷ ‵ (SliceAt u64 κ₁ q₁ store ss) ∷ ‵ (SliceAt u64 κ₂ q₂ words ws) ∷ Γ) t-29
+      → Goes 𝓤 H A W 𝓣 bs K G (‵ (Lies 𝓤 H A W b o (withRecords (z .0 ++ rest n (t .blocks)) t)) ∷ holds 𝓤 H bs 1 (vptr b o) ∷ holds 𝓤 H bs 11 pv ∷ holds 𝓤 H bs 13 cv
+      ∷ empty 𝓤 H bs 7 ∷ empty 𝓤 H bs 6 ∷ empty 𝓤 H bs 3 ∷ empty 𝓤 H bs 4 ∷ empty 𝓤 H bs 14 ∷ empty 𝓤 H bs 15 ∷ holds 𝓤 H bs 16 v ∷ empty 𝓤 H bs 36
+      ∷ empty 𝓤 H bs 37 ∷ empty 𝓤 H bs 38 ∷ empty 𝓤 H bs 39 ∷ empty 𝓤 H bs 40 ∷ empty 𝓤 H bs 41 ∷ ‵ (finally u64 (store .name) (z .1 .0))
+      ∷ ‵ (finally u64 (words .name) (z .1 .1)) ∷ ‵ (flft κ₁ q₁) ∷ ‵ (flft κ₂ q₂) ∷ Γ) t-36)
+      → Goes 𝓤 H A W 𝓣 bs K G (‵ (Lies 𝓤 H A W b o t₁) ∷ holds 𝓤 H bs 1 (vptr b o) ∷ holds 𝓤 H bs 11 pv ∷ holds 𝓤 H bs 13 cv ∷ holds 𝓤 H bs 7 (vint w64 n)
+      ∷ holds 𝓤 H bs 6 fv ∷ holds 𝓤 H bs 3 (slice store) ∷ holds 𝓤 H bs 4 (slice words) ∷ empty 𝓤 H bs 14 ∷ empty 𝓤 H bs 15 ∷ empty 𝓤 H bs 16 ∷ empty 𝓤 H bs 36
+      ∷ empty 𝓤 H bs 37 ∷ empty 𝓤 H bs 38 ∷ empty 𝓤 H bs 39 ∷ empty 𝓤 H bs 40 ∷ empty 𝓤 H bs 41 ∷ ‵ (SliceAt u64 κ₁ q₁ store ss) ∷ ‵ (SliceAt u64 κ₂ q₂ words ws) ∷ Γ) t-27
   writes-onwards {Γ = Γ} g goes = record {
     prf =
-        qed W (‵ (Lies 𝓤 H A W b o t₁) ∷ holds 𝓤 H bs 1 (vptr b o) ∷ holds 𝓤 H bs 13 pv ∷ holds 𝓤 H bs 15 cv ∷ holds 𝓤 H bs 8 (vint w64 n)
-        ∷ holds 𝓤 H bs 6 fv ∷ holds 𝓤 H bs 3 (slice store) ∷ holds 𝓤 H bs 4 (slice words) ∷ empty 𝓤 H bs 16 ∷ empty 𝓤 H bs 17 ∷ empty 𝓤 H bs 18 ∷ empty 𝓤 H bs 38
-        ∷ empty 𝓤 H bs 39 ∷ empty 𝓤 H bs 40 ∷ empty 𝓤 H bs 41 ∷ empty 𝓤 H bs 42 ∷ empty 𝓤 H bs 43 ∷ ‵ (SliceAt u64 κ₁ q₁ store ss) ∷ ‵ (SliceAt u64 κ₂ q₂ words ws) ∷ Γ) ∵
-        exec ! (𝓣 .C) (𝓣 .Λ) (En 𝓤 H bs) t-29 (atRet (En 𝓤 H bs) K) $
+        qed W (‵ (Lies 𝓤 H A W b o t₁) ∷ holds 𝓤 H bs 1 (vptr b o) ∷ holds 𝓤 H bs 11 pv ∷ holds 𝓤 H bs 13 cv ∷ holds 𝓤 H bs 7 (vint w64 n)
+        ∷ holds 𝓤 H bs 6 fv ∷ holds 𝓤 H bs 3 (slice store) ∷ holds 𝓤 H bs 4 (slice words) ∷ empty 𝓤 H bs 14 ∷ empty 𝓤 H bs 15 ∷ empty 𝓤 H bs 16 ∷ empty 𝓤 H bs 36
+        ∷ empty 𝓤 H bs 37 ∷ empty 𝓤 H bs 38 ∷ empty 𝓤 H bs 39 ∷ empty 𝓤 H bs 40 ∷ empty 𝓤 H bs 41 ∷ ‵ (SliceAt u64 κ₁ q₁ store ss) ∷ ‵ (SliceAt u64 κ₂ q₂ words ws) ∷ Γ) ∵
+        exec ! (𝓣 .C) (𝓣 .Λ) (En 𝓤 H bs) t-27 (atRet (En 𝓤 H bs) K) $
         -- what is left, the owner's record, and the three slices
         assigns ! (of-opd ! (load ! (from ! (fld ! rest-field (stop !))) (look-in ! 2 (sub ! 1 rest-field (whole !))))) (from ! (stop !))
         (init ! 8 refl (lawful rests.the-type rests-laws.the-laws 𝓤 H A W .typed (r .rest) (rv ∷ []) is-r .0)) $
@@ -212,9 +212,9 @@ module _ {M : Type 1} (𝓤 : URA M) (H : Heap 𝓤) (A : Atoms 𝓤) (W : Given
         move ! (3 ∷ 1 ∷ []) $ join ! $ move ! (5 ∷ 0 ∷ []) $ join ! $ move ! (2 ∷ 1 ∷ []) $ join ! $ move ! (1 ∷ 2 ∷ 0 ∷ []) $
         use3 W (raw (WritesOn 𝓤 H A W mem″ run .pre (to α γ)))
         (onwards-may 𝓤 H A W mem″ run α κ₁ κ₂ q₁ q₂ (lending γ) (t .config) (c .domain) (c .owner) (r .rest) (at-last store ss) (at-last words ws) fv dv wv rv is-f is-d is-w is-r may (long ∙ sym present)) $
-        rewrite ! 14 (λ (m : ℕ). holds 𝓤 H bs 39 (sliceVal (b, first) m)) (sym long) refl $
-        rewrite ! 16 (λ (m : ℕ). holds 𝓤 H bs 41 (sliceVal (store .ptr) m)) (sym s-long) refl $
-        rewrite ! 18 (λ (m : ℕ). holds 𝓤 H bs 43 (sliceVal (words .ptr) m)) (sym w-long) refl $
+        rewrite ! 14 (λ (m : ℕ). holds 𝓤 H bs 37 (sliceVal (b, first) m)) (sym long) refl $
+        rewrite ! 16 (λ (m : ℕ). holds 𝓤 H bs 39 (sliceVal (store .ptr) m)) (sym s-long) refl $
+        rewrite ! 18 (λ (m : ℕ). holds 𝓤 H bs 41 (sliceVal (words .ptr) m)) (sym w-long) refl $
         calls-at ! (fmOf 𝓤 H (W .laws) 𝓣) (WritesOn 𝓤 H A W mem″ run) known (to α γ)
         (and-then ! (load ! (from ! (stop !)) (look ! 14 refl)) (and-then ! (load ! (from ! (stop !)) (look ! 7 refl))
         (and-then ! (load ! (from ! (fld ! number-field (stop !))) (look-in ! 5 (sub ! 2 number-field (whole !))))
@@ -238,5 +238,5 @@ module _ {M : Type 1} (𝓤 : URA M) (H : Heap 𝓤) (A : Atoms 𝓤) (W : Given
         -- the tokens, and what is left of the slices
         move ! (2 ∷ []) $ split ! $ move ! (1 ∷ []) $ split ! $ move ! (1 ∷ []) $ drop ! $ move ! (3 ∷ []) $ fsplit ! $
         move ! (4 ∷ 5 ∷ 6 ∷ 7 ∷ 8 ∷ 9 ∷ 10 ∷ 11 ∷ 12 ∷ 13 ∷ 14 ∷ 15 ∷ 16 ∷ 17 ∷ 18 ∷ 19 ∷ 20 ∷ 0 ∷ 1 ∷ 3 ∷ 2 ∷ []) $
-        by ! (goes w′ z v is-w′ (subst (λ (xs : List Block). WrittenOn (t .config) (c .domain) (r .rest) xs (c .owner) ss ws (z .0) w′ (z .1 .0) (z .1 .1)) same (f .0)) (f .1 .1) .prf))))))));
+        by ! (goes w′ z v is-w′ (subst (λ (xs : List Block). WroteOnwards (t .config) (c .domain) (r .rest) xs (c .owner) ss ws (z .0) w′ (z .1 .0) (z .1 .1)) same (f .0)) (f .1 .1) .prf))))))));
   }

@@ -1,6 +1,6 @@
 -- The calls that `append_in` makes beside that of `serve_words`: of each callee, its contract, that the call may be made, and what the caller has once it has
 -- returned.
-use Prim.Native.Nat.{ℕ, _<_, _^_}
+use Prim.Native.Nat.{ℕ, _-_, _<_, _^_}
 use mathlib.Core.Bool.{Bool}
 use mathlib.Core.List.{[], _∷_}
 use mathlib.Core.Path.{_≡_, refl}
@@ -16,7 +16,6 @@ use prog.Wp.{Heap}
 use ghost.Atoms.{Atoms, sem}
 use contract.Monad.{Fun, fact}
 use types.Kit.{Given, Item, ‵, mean, _$_, _∵_, !, qed, move, use2, drop, join, fsplit, fjoin, check, show, frame, done}
-use denote.Array.{array-makes}
 use denote.Builtin.{u64}
 use denote.Enum.Laws as enum
 use denote.Laws.{Is}
@@ -31,7 +30,7 @@ use denote.Triple.Walked.{needs}
 use Rattle.countdown.proofs.Calling.{Given-back, gives}
 use Rattle.model.specs.declared.answer.Answer.{Answer}
 use Rattle.model.specs.declared.command.Command.{Command}
-use Rattle.model.specs.declared.table.Table.{Table}
+use Rattle.model.specs.declared.table.Domain.{Domain}
 use Rattle.model.proofs.answer.Answer as answer
 use Rattle.model.proofs.answer.Answer.Laws as answer-laws
 use Rattle.model.proofs.command.Command as command
@@ -44,37 +43,56 @@ use Rattle.recorder.specs.Samples.{isOverQuota, sampleCommand}
 use Rattle.recorder.specs.Steps.{Again}
 use Rattle.recorder.proofs.appending.write_again as writing
 use Rattle.recorder.proofs.samples.is_over_quota as testing
+use Rattle.recorder.proofs.samples.place_of as placing
 use Rattle.recorder.proofs.samples.sample_command as sampling
-use Rattle.recorder.proofs.Domains.{domains, domainsValue}
-use Rattle.recorder.proofs.Lending.{Asking, Back, Handed, Kept, Last, LastSlices, LastTable, Lent, Loan, Owned, State, answered, last, ready, store-lent, table-lent, words-lent}
-use Rattle.recorder.proofs.Slices.{slice}
+use Rattle.recorder.proofs.Lending.{Asking, Back, Handed, Kept, Last, LastSlices, LastTable, Lent, Loan, Owned, State, answered, last, ready, slice, store-lent, table-lent, words-lent}
 -- where each callee stands in the table of calls
 pub use Rattle.recorder.proofs.appending.write_again.Symbol.{name as again-name, routine as again-routine}
 pub use Rattle.recorder.proofs.samples.is_over_quota.Symbol.{name as over-name, routine as over-routine}
+pub use Rattle.recorder.proofs.samples.place_of.Symbol.{name as place-name, routine as place-routine}
 pub use Rattle.recorder.proofs.samples.sample_command.Symbol.{name as sample-name, routine as sample-routine}
 
 module _ {M : Type 1} (𝓤 : URA M) (H : Heap 𝓤) (A : Atoms 𝓤) (W : Given 𝓤 H A) (mem″ : Memory → SProp 𝓤) (run : Routine → Fun 𝓤) where
-  -- ---- `sample_command`
+  -- ---- `place_of`
+  abbrev pub Placing : Contract 𝓤
+  Placing = tripleOf 𝓤 H A placing.signature (placing.spec 𝓤 H A mem″ run)
+
+  module _ (d : ℕ) where
+    abbrev pub to-place : Placing .Ghost
+    to-place = ((tt, tt, tt, (d, tt), (vint w64 d ∷ [], tt)), tt)
+
+    pub place-may : d < 2 ^ 64 → ent 𝓤 (emp 𝓤) (Placing .pre to-place)
+    place-may fits =
+        qed W [] ∵ nothing ! $ owned ! u64 (Is u64) (uint-makes 𝓤 H A W w64) d (vint w64 d ∷ []) (refl, fits) $ fjoin ! $ nothing ! $ join ! $ frame ! $ done !
+
+    abbrev pub Placed : ℕ → SProp 𝓤
+    Placed r = fact 𝓤 (r ≡ d - 1)
+
+    pub place-gives : (v : Val) → ent 𝓤 (Placing .post to-place v) (H .⇛ (ex 𝓤 (Given-back 𝓤 H A W placing.ended (placing.clauses 𝓤 H A mem″ run) to-place v Placed)))
+    place-gives v = gives 𝓤 H A W placing.ended (placing.clauses 𝓤 H A mem″ run) to-place v Placed
+        (λ r. exE 𝓤 _ (λ ws. snd∗ 𝓤 (sem 𝓤 H A (lasts placing.ended tt (d, tt) ws)) (Placed r)))
+
+  -- ---- `sample_command`, with the domain's record, whose machine value is ov
   abbrev pub Sampling : Contract 𝓤
   Sampling = tripleOf 𝓤 H A sampling.signature (sampling.spec 𝓤 H A mem″ run)
 
-  module _ (u : Table) (d sample : ℕ) where
+  module _ (owner : Domain) (ov : Val) (d sample : ℕ) where
     abbrev pub to-sample : Sampling .Ghost
-    to-sample = ((tt, tt, tt, (u .domains, (d, (sample, tt))), (domainsValue u ∷ [], (vint w64 d ∷ [], (vint w64 sample ∷ [], tt)))), tt)
+    to-sample = ((tt, tt, tt, (owner, (d, (sample, tt))), (ov ∷ [], (vint w64 d ∷ [], (vint w64 sample ∷ [], tt)))), tt)
 
-    pub sample-may : Is domains (u .domains) (domainsValue u ∷ []) → d < 2 ^ 64 → sample < 2 ^ 64 → ent 𝓤 (emp 𝓤) (Sampling .pre to-sample)
+    pub sample-may : Is domain.the-row owner (ov ∷ []) → d < 2 ^ 64 → sample < 2 ^ 64 → ent 𝓤 (emp 𝓤) (Sampling .pre to-sample)
     sample-may is d-fits sample-fits =
         qed W [] ∵ nothing ! $ owned ! u64 (Is u64) (uint-makes 𝓤 H A W w64) sample (vint w64 sample ∷ []) (refl, sample-fits) $ fjoin ! $
         owned ! u64 (Is u64) (uint-makes 𝓤 H A W w64) d (vint w64 d ∷ []) (refl, d-fits) $ fjoin ! $
-        owned ! domains (Is domains) (array-makes 𝓤 H A W domain.the-row (makes domain.the-type domain-laws.the-plain 𝓤 H A) 16) (u .domains) (domainsValue u ∷ []) is $
+        owned ! domain.the-row (Is domain.the-row) (makes domain.the-type domain-laws.the-plain 𝓤 H A) owner (ov ∷ []) is $
         fjoin ! $ nothing ! $ join ! $ frame ! $ done !
 
     abbrev pub Made : Command → SProp 𝓤
-    Made r = fact 𝓤 (r ≡ sampleCommand (u .domains) d sample)
+    Made r = fact 𝓤 (r ≡ sampleCommand owner d sample)
 
     pub sample-gives : (v : Val) → ent 𝓤 (Sampling .post to-sample v) (H .⇛ (ex 𝓤 (Given-back 𝓤 H A W sampling.ended (sampling.clauses 𝓤 H A mem″ run) to-sample v Made)))
     sample-gives v = gives 𝓤 H A W sampling.ended (sampling.clauses 𝓤 H A mem″ run) to-sample v Made
-        (λ r. exE 𝓤 _ (λ ws. snd∗ 𝓤 (sem 𝓤 H A (lasts sampling.ended tt (u .domains, (d, (sample, tt))) ws)) (Made r)))
+        (λ r. exE 𝓤 _ (λ ws. snd∗ 𝓤 (sem 𝓤 H A (lasts sampling.ended tt (owner, (d, (sample, tt))) ws)) (Made r)))
 
   -- ---- `is_over_quota`
   abbrev pub OverQuota : Contract 𝓤
