@@ -9,6 +9,8 @@ use crate::random::Random;
 use crate::recorder::Call;
 
 const LAST_LBA: u64 = (1 << 40) - 1;
+/// So far apart 256 serials may lie, if the first is 300 at most.
+const MOST_APART: u32 = (1 << 24) - 2;
 const HUGE: [u64; 6] = [u64::MAX, u64::MAX - 1, 1 << 63, 1 << 32, (1 << 32) + 1, 1 << 16];
 
 // Configurations.
@@ -123,10 +125,7 @@ pub fn command(random: &mut Random, table: &Table, store: &[u64]) -> Command {
             let (domain, block) = drive.block(random, is_held);
             Command::Page { domain, block }
         }
-        10 => Command::List {
-            domain: drive.domain(random),
-            listed: random.pick(&[Listed::Open, Listed::Closed]),
-        },
+        10 => drive.list(random),
         _ => Command::Pulse {
             seconds: wild(random, &[65_536], |random| match random.below(8) {
                 0 => random.between(0, 65_535),
@@ -136,6 +135,11 @@ pub fn command(random: &mut Random, table: &Table, store: &[u64]) -> Command {
             }),
         },
     }
+}
+
+/// A List for this table.
+pub fn list(random: &mut Random, table: &Table) -> Command {
+    View { table, store: &[] }.list(random)
 }
 
 /// A command, or a call of the recorder's, for this table and store. Some commands are there to
@@ -279,6 +283,17 @@ impl View<'_> {
         };
         let block = wild(random, &[self.table.config.blocks, ANY_BLOCK], |_| block);
         (domain, block)
+    }
+
+    /// Mostly of a domain that has blocks to be listed, and rather of one that has many.
+    fn list(&self, random: &mut Random) -> Command {
+        let listed = random.pick(&[Listed::Open, Listed::Closed]);
+        let domain = match listed {
+            _ if random.chance(25) => self.domain(random),
+            Listed::Open => self.block(random, |block| matches!(block.state, State::Open(_))).0,
+            Listed::Closed => self.block(random, is_closed).0,
+        };
+        Command::List { domain, listed }
     }
 
     fn create(&self, random: &mut Random) -> Command {
@@ -461,14 +476,14 @@ impl View<'_> {
 
 /// Plants numbers into a sound table by which it comes near its ends, and stays sound.
 pub fn plant(random: &mut Random, table: &mut Table) {
-    match random.below(10) {
+    match random.below(11) {
         0 => plant_last_serials(random, table),
-        2 => plant_wear(random, table),
-        1 | 3 => plant_chains(random, table),
-        4 => junk_beyond(random, table),
-        5 => plant_seconds(random, table),
-        6 => plant_written(random, table),
-        7 => plant_tight_limits(random, table),
+        1 => plant_wear(random, table),
+        2..=4 => plant_serials(random, table),
+        5 => junk_beyond(random, table),
+        6 => plant_seconds(random, table),
+        7 => plant_written(random, table),
+        8 => plant_tight_limits(random, table),
         _ => plant_wear_of_free(random, table),
     }
 }
@@ -512,22 +527,35 @@ fn plant_wear_of_free(random: &mut Random, table: &mut Table) {
     }
 }
 
-/// Serials of a domain that are equal modulo 256, and so on.
-fn plant_chains(random: &mut Random, table: &mut Table) {
-    let step = random.pick(&[1, 16, 32, 256, 512, 65_536, 1 << 23]);
-    let rest = random.between(1, 300) as u32;
+/// Serials of each domain one after the other, equal modulo 256 and so on, or anywhere, up to the
+/// last of all; mostly they come in another order than the numbers of their blocks.
+fn plant_serials(random: &mut Random, table: &mut Table) {
+    let step = random.pick(&[1, 16, 32, 256, 512, 65_536, 1 << 23, MOST_APART]);
+    let first = random.between(1, 300) as u32;
+    let (exact, shuffled) = (random.chance(50), random.chance(80));
     for index in 0..DOMAINS {
-        let mut serial = rest;
-        for block in
-            present(table).iter_mut().filter(|block| usize::from(block.holder) == index + 1)
-        {
-            block.serial = serial;
-            serial += step;
+        if !table.domains[index].exists {
+            continue;
+        }
+        let count = held(table, index).count() as u32;
+        let mut serials: Vec<u32> = (0..count)
+            .map(|turn| {
+                let further = if exact { 0 } else { random.below(step.into()) as u32 };
+                first + turn * step + further
+            })
+            .collect();
+        let greatest = serials.last().copied().unwrap_or(0);
+        let shift = if random.chance(10) { u32::MAX - greatest } else { 0 };
+        if shuffled {
+            random.shuffle(&mut serials);
+        }
+        let blocks = present(table).iter_mut();
+        let its = blocks.filter(|block| usize::from(block.holder) == index + 1);
+        for (block, serial) in its.zip(serials) {
+            block.serial = serial + shift;
         }
         let domain = &mut table.domains[index];
-        if domain.exists {
-            domain.last = domain.last.max(serial);
-        }
+        domain.last = domain.last.max(greatest + shift);
     }
 }
 
@@ -620,6 +648,46 @@ fn plant_one_placement(random: &mut Random, table: &mut Table, index: usize) {
             _ => {}
         }
     }
+}
+
+/// A sound table of a drive of any size, nearly all of whose blocks are held. It is for commands
+/// that need no store.
+pub fn full_table(random: &mut Random) -> Table {
+    let most_blocks = random.pick(&[8, 64, 256, 256]);
+    let blocks = random.between(1, most_blocks);
+    let mut table = Table::start(Config { blocks, ..config(random) }).1;
+    let domains = random.pick(&[1, 1, 2, 3, 8, 16]);
+    for domain in &mut table.domains[..domains as usize] {
+        *domain = Domain {
+            exists: true,
+            quota: blocks as u32,
+            placements: random.between(1, 16) as u8,
+            limit: 256,
+            ..Domain::default()
+        };
+    }
+    let (free, open) = (random.pick(&[0, 5]), random.pick(&[0, 10, 50, 90, 100]));
+    // The placements that have an open block.
+    let mut writing = [[false; 16]; DOMAINS];
+    for block in &mut table.blocks[..blocks as usize] {
+        if random.chance(free) {
+            continue;
+        }
+        let index = random.below(domains) as usize;
+        let placement = random.below(table.domains[index].placements.into()) as u8;
+        let is_writing = &mut writing[index][usize::from(placement)];
+        let is_open = random.chance(open);
+        let is_placed = random.chance(50) && !(is_open && *is_writing);
+        *is_writing |= is_open && is_placed;
+        let way = if is_placed { Way::Placement(placement) } else { Way::Erase };
+        block.state = if is_open { State::Open(way) } else { State::Closed(way) };
+        block.holder = index as u8 + 1;
+    }
+    plant_serials(random, &mut table);
+    plant_seconds(random, &mut table);
+    plant_written(random, &mut table);
+    plant_wear(random, &mut table);
+    table
 }
 
 // Tables that need not be sound.

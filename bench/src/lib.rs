@@ -1,5 +1,5 @@
-//! A second reading of document 01 and of Wish 1 of document 02 in Rust, and what is needed to hold
-//! the proved library against it.
+//! A second reading of document 01 and of Wishes 1 and 2 of document 02 in Rust, and what is needed
+//! to hold the proved library against it.
 
 pub mod flat;
 pub mod generate;

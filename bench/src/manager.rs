@@ -1,4 +1,5 @@
-//! The super block manager of a shared drive, read from document 01.
+//! The super block manager of a shared drive, read from document 01; lists have the order of Wish 2
+//! of document 02.
 //!
 //! `Table::start` and `Table::serve` answer every input: the first question of 01 that is answered
 //! no gives its number, and then table, store and outputs stay as they were.
@@ -950,7 +951,7 @@ impl Table {
         Ok(Answer::Done)
     }
 
-    /// A descriptor for each listed block, in ascending number, and the end mark.
+    /// A descriptor for each listed block, by rising serial, and the end mark.
     fn list(&self, census: &Census, domain: u64, listed: Listed, bytes: &mut [u8]) -> Served {
         let index = self.ask_domain(domain)?;
         let tally = census.tallies[index];
@@ -958,24 +959,30 @@ impl Table {
             Listed::Open => tally.open(),
             Listed::Closed => tally.held() - tally.open(),
         } as usize;
-        let list = bytes.get_mut(..(count + 1) * DESCRIPTOR_BYTES).ok_or(Question::Output)?;
-        let (descriptors, end) = list.split_at_mut(count * DESCRIPTOR_BYTES);
+        let (places, _) = bytes.as_chunks_mut::<DESCRIPTOR_BYTES>();
+        let Some([descriptors @ .., end]) = places.get_mut(..=count) else {
+            return Err(Question::Output);
+        };
         let is_listed = |block: &Block| {
             u64::from(block.holder) == domain && block.state.is_open() == (listed == Listed::Open)
         };
         let numbered = self.present().iter().enumerate().filter(|(_, block)| is_listed(block));
-        for (descriptor, (number, block)) in
-            descriptors.chunks_exact_mut(DESCRIPTOR_BYTES).zip(numbered)
-        {
+        // To be sorted, a block has its serial above what is shown of it; its number has one byte.
+        for (descriptor, (number, block)) in descriptors.iter_mut().zip(numbered) {
             let byte = match listed {
                 Listed::Open => block.state.code(),
                 Listed::Closed => block.state.integrity(),
             };
             let index = self.config.wear_index(block.erases);
-            descriptor[..4].copy_from_slice(&(number as u32).to_le_bytes());
-            descriptor[4..].copy_from_slice(&[index, byte, 0, 0]);
+            let shown = u32::from_le_bytes([number as u8, index, byte, 0]);
+            *descriptor = (u64::from(block.serial) << 32 | u64::from(shown)).to_le_bytes();
         }
-        end.copy_from_slice(&[0xFF, 0xFF, 0xFF, 0xFF, 0, 0, 0, 0]);
+        descriptors.sort_unstable_by_key(|&ranked| u64::from_le_bytes(ranked));
+        for descriptor in descriptors {
+            let [number, index, byte, ..] = *descriptor;
+            *descriptor = [number, 0, 0, 0, index, byte, 0, 0];
+        }
+        *end = [0xFF, 0xFF, 0xFF, 0xFF, 0, 0, 0, 0];
         Ok(Answer::Done)
     }
 }

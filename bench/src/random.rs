@@ -41,6 +41,13 @@ impl Random {
         from[self.below(from.len() as u64) as usize]
     }
 
+    /// Puts items into any order, each as often as any other.
+    pub fn shuffle<T>(&mut self, items: &mut [T]) {
+        for end in (1..items.len()).rev() {
+            items.swap(end, self.below(end as u64 + 1) as usize);
+        }
+    }
+
     /// An index, each as often as its weight says.
     pub fn weighted(&mut self, weights: &[u64]) -> usize {
         let mut left = self.below(weights.iter().sum());
@@ -79,6 +86,19 @@ mod tests {
             counts[random.weighted(&[1, 0, 3])] += 1;
         }
         assert!(counts[0] > 150 && counts[1] == 0 && counts[2] > 600);
+    }
+
+    #[test]
+    fn every_order_comes_up() {
+        let mut random = Random::new(2);
+        let mut counts = [0; 6];
+        for _ in 0..6_000 {
+            let mut items = [0, 1, 2];
+            random.shuffle(&mut items);
+            counts[2 * items[0] + usize::from(items[1] > items[2])] += 1;
+        }
+        assert!(counts.iter().all(|&count| count > 900), "{counts:?}");
+        random.shuffle::<u8>(&mut []);
     }
 
     #[test]

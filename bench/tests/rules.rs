@@ -518,8 +518,8 @@ fn a_list_has_a_descriptor_for_each_block_and_an_end_mark() {
 
     let open = [
         [1, 0, 0, 0, 0, 0x08, 0, 0],
-        [3, 0, 0, 0, 0, 0x04, 0, 0],
         [4, 0, 0, 0, 255, 0x08, 0, 0],
+        [3, 0, 0, 0, 0, 0x04, 0, 0],
         END,
     ];
     drive.bytes.fill(0xA5);
@@ -527,7 +527,7 @@ fn a_list_has_a_descriptor_for_each_block_and_an_end_mark() {
     assert_eq!(drive.bytes[..32], open.concat());
     assert!(drive.bytes[32..].iter().all(|&byte| byte == 0xA5));
 
-    let closed = [[2, 0, 0, 0, 0, 1, 0, 0], [6, 0, 0, 0, 200, 1, 0, 0], END];
+    let closed = [[6, 0, 0, 0, 200, 1, 0, 0], [2, 0, 0, 0, 0, 1, 0, 0], END];
     drive.bytes.fill(0xA5);
     assert_eq!(drive.list(1, Listed::Closed), Done);
     assert_eq!(drive.bytes[..24], closed.concat());

@@ -1,8 +1,8 @@
 //! Runs scripts of commands and holds the answers against the wanted ones.
 //!
-//! One is that which the program `drive` is run on, its standard input and what it is to print; the
-//! other has the recorder's calls among the commands. The answers given are left in the tests'
-//! temporary folder.
+//! The first is that which the program `drive` is run on, its standard input and what it is to
+//! print. The others have the recorder's calls among the commands; the last is made for the order
+//! of lists. The answers given are left in the tests' temporary folder.
 
 use bench::manager::{
     make_address, take_apart, Answer, Command, Config, Elements, Listed, Table, ANY_BLOCK,
@@ -207,18 +207,6 @@ fn descriptors(bytes: &[u8]) -> String {
     bytes.chunks(8).take(end + 1).map(hex).collect::<Vec<_>>().join(" ")
 }
 
-/// Equal, but for the order of an open list.
-fn agree(command: &str, want: &str, got: &str) -> bool {
-    let sorted = |line: &str| {
-        let mut words: Vec<String> = line.split_whitespace().map(String::from).collect();
-        words.sort();
-        words
-    };
-    let open_list = command.starts_with("list") && command.contains("open");
-    let same_end = want.split_whitespace().last() == got.split_whitespace().last();
-    want == got || open_list && same_end && sorted(want) == sorted(got)
-}
-
 #[test]
 fn vectors_are_answered_as_wanted() {
     compare("crates/drive/stdin", "crates/drive/stdout", "answers.txt");
@@ -227,6 +215,11 @@ fn vectors_are_answered_as_wanted() {
 #[test]
 fn vectors_of_the_recorder_are_answered_as_wanted() {
     compare("tests/recorder.script", "tests/recorder.answers", "recorder.answers");
+}
+
+#[test]
+fn vectors_of_the_lists_order_are_answered_as_wanted() {
+    compare("tests/wish2.script", "tests/wish2.answers", "wish2.answers");
 }
 
 /// Answers a script, keeps what was given under a name, and holds it against the wanted answers.
@@ -246,7 +239,7 @@ fn compare(script: &str, wanted: &str, kept: &str) {
     assert_eq!(wanted.lines().count(), commands.len());
     let mut differing = 0;
     for ((command, want), got) in commands.iter().zip(wanted.lines()).zip(&given) {
-        if !agree(command, want, got) {
+        if want != got {
             differing += 1;
             println!("{command}\n  want {want}\n  got  {got}");
         }

@@ -123,7 +123,7 @@ struct Counts {
     planted: u64,
     /// Drives that were started, by their number of blocks.
     drives: [u64; SIZES.len()],
-    /// Successful calls of the recorder, by what they met.
+    /// Successful lists and calls of the recorder, by what they met.
     met: [u64; MEETINGS.len()],
 }
 
@@ -132,8 +132,12 @@ const SIZES: [u64; 5] = [1, 8, 32, 128, 256];
 
 const START: usize = KINDS;
 
-/// What a successful call of the recorder can meet.
-const MEETINGS: [&str; 6] = [
+/// What a successful List or call of the recorder can meet.
+const MEETINGS: [&str; 10] = [
+    "List open of blocks not in the order of their numbers",
+    "List open of more than 32 blocks, not in the order of their numbers",
+    "List closed of blocks not in the order of their numbers",
+    "List closed of more than 32 blocks, not in the order of their numbers",
     "Append that freed a block",
     "Append that freed one block and opened another",
     "Latest from several blocks",
@@ -245,15 +249,22 @@ impl Counts {
 
 /// What a successful call met, by the places in `MEETINGS`, on the tables before and after it.
 fn met(call: &Call, before: &Table, after: &Table) -> [bool; MEETINGS.len()] {
+    let mut met = [false; MEETINGS.len()];
     match *call {
-        Call::Command(_) => [false; MEETINGS.len()],
+        Call::Command(Command::List { domain, listed }) => {
+            let blocks: Vec<&Block> = listed_blocks(before, domain, listed).collect();
+            let turned = !blocks.is_sorted_by_key(|block| block.serial);
+            let first = if listed == Listed::Open { 0 } else { 2 };
+            met[first..first + 2].copy_from_slice(&[turned, turned && blocks.len() > 32]);
+        }
+        Call::Command(_) => {}
         Call::Append { domain, .. } => {
             let is_freed = |(before, after): &(&Block, &Block)| {
                 u64::from(before.holder) == domain && before.serial != after.serial
             };
             let freed = before.blocks.iter().zip(&after.blocks).find(is_freed);
             let is_free = freed.is_some_and(|(_, after)| after.state == State::Free);
-            [freed.is_some(), is_free, false, false, false, false]
+            met[4..6].copy_from_slice(&[freed.is_some(), is_free]);
         }
         Call::Latest { domain, count } => {
             let sources = sources(before, domain, count);
@@ -265,9 +276,22 @@ fn met(call: &Call, before: &Table, after: &Table) -> [bool; MEETINGS.len()] {
             let erased = sources.iter().any(|(_, block)| {
                 matches!(block.state, State::Open(Way::Erase) | State::Closed(Way::Erase))
             });
-            [false, false, sources.len() > 1, turned, partly, erased]
+            met[6..].copy_from_slice(&[sources.len() > 1, turned, partly, erased]);
         }
     }
+    met
+}
+
+/// The blocks that a list tells of, by their numbers; the table may be any.
+fn listed_blocks(table: &Table, domain: u64, listed: Listed) -> impl Iterator<Item = &Block> {
+    let present = &table.blocks[..table.config.blocks.min(BLOCKS as u64) as usize];
+    present.iter().filter(move |block| {
+        let is_listed = match listed {
+            Listed::Open => matches!(block.state, State::Open(_)),
+            Listed::Closed => matches!(block.state, State::Closed(_)),
+        };
+        is_listed && u64::from(block.holder) == domain
+    })
 }
 
 /// The blocks that the last so many ADUs of a domain are in, the newest first.
@@ -354,7 +378,11 @@ impl<O: Other> Trial<O> {
                     0 if !wrong => self.plant(generate::plant),
                     1..=9 => self.serve_damaged()?,
                     10 | 11 if !wrong => self.plant(generate::plant_recorder),
-                    _ => self.serve()?,
+                    12 | 13 if !wrong => self.serve_lists()?,
+                    _ => {
+                        let call = generate::call(&mut self.random, &self.table, &self.mine.store);
+                        self.serve(call)?;
+                    }
                 }
             }
         }
@@ -394,21 +422,41 @@ impl<O: Other> Trial<O> {
 
     /// Some commands on a damaged copy of the table; the store goes on with what they leave.
     fn serve_damaged(&mut self) -> Result<(), String> {
-        let table = self.table.clone();
-        generate::damage(&mut self.random, &mut self.table);
+        let mut table = self.table.clone();
+        generate::damage(&mut self.random, &mut table);
+        let before = self.counts.commands;
+        self.serve_aside(table, generate::call)?;
+        self.counts.damaged += self.counts.commands - before;
+        Ok(())
+    }
+
+    /// Some lists on a table of another drive.
+    fn serve_lists(&mut self) -> Result<(), String> {
+        let table = generate::full_table(&mut self.random);
+        assert!(table.is_sound(), "a full table is sound");
+        self.counts.planted += 1;
+        self.serve_aside(table, |random, table, _| generate::list(random, table).into())
+    }
+
+    /// Some commands on another table, after which the drive goes on with its own.
+    fn serve_aside(
+        &mut self,
+        table: Table,
+        call: fn(&mut Random, &Table, &[u64]) -> Call,
+    ) -> Result<(), String> {
+        let own = std::mem::replace(&mut self.table, table);
         fill_row(&self.table, &mut self.row);
         for _ in 0..self.random.between(1, 3) {
-            self.serve()?;
-            self.counts.damaged += 1;
+            let call = call(&mut self.random, &self.table, &self.mine.store);
+            self.serve(call)?;
         }
-        self.table = table;
+        self.table = own;
         fill_row(&self.table, &mut self.row);
         Ok(())
     }
 
     /// A command on both sides.
-    fn serve(&mut self) -> Result<(), String> {
-        let call = generate::call(&mut self.random, &self.table, &self.mine.store);
+    fn serve(&mut self, call: Call) -> Result<(), String> {
         let lent = self.lend(&call);
         self.random.fill_words(&mut self.mine.words);
         self.random.fill_bytes(&mut self.mine.bytes);
@@ -433,7 +481,11 @@ impl<O: Other> Trial<O> {
             &mut bytes[..lent.bytes],
         );
         self.counts.count(words[0] as usize, answer_number(answer));
-        if answer == Answer::Done && !matches!(call, Call::Command(_)) {
+        let can_meet = match call {
+            Call::Command(command) => matches!(command, Command::List { .. }),
+            Call::Append { .. } | Call::Latest { .. } => true,
+        };
+        if answer == Answer::Done && can_meet {
             self.counts.note(met(&call, &from_row(&self.before), &self.table));
         }
         fill_row(&self.table, &mut self.wanted);
@@ -483,14 +535,7 @@ impl<O: Other> Trial<O> {
             | Command::Read { count, .. } => (count.min(256) as usize, 0),
             Command::Page { .. } => (0, 256),
             Command::List { domain, listed } => {
-                let is_listed = |state| match listed {
-                    Listed::Open => matches!(state, State::Open(_)),
-                    Listed::Closed => matches!(state, State::Closed(_)),
-                };
-                let present = self.table.config.blocks.min(BLOCKS as u64) as usize;
-                let blocks = self.table.blocks[..present].iter();
-                let of_domain = blocks.filter(|block| u64::from(block.holder) == domain);
-                (0, 8 * (of_domain.filter(|block| is_listed(block.state)).count() + 1))
+                (0, 8 * (listed_blocks(&self.table, domain, listed).count() + 1))
             }
             _ => (0, 0),
         }
@@ -622,7 +667,8 @@ mod tests {
         let mut trial = Trial::new(Impostor(|_: Left| ()), 5);
         assert_eq!(trial.run(60_000), Ok(()));
         assert_eq!(trial.counts.missing(), Vec::<String>::new());
-        assert_eq!(trial.counts.commands, 60_000);
+        // Those that are served aside come up to three at a time.
+        assert!((60_000..60_003).contains(&trial.counts.commands));
     }
 
     #[test]
@@ -738,6 +784,66 @@ mod tests {
         }));
     }
 
+    /// Changes the descriptors of lists, of the open blocks or of the Closed ones.
+    fn lister(of: Listed, change: impl Fn(&mut [[u8; 8]], &Table)) -> impl FnMut(Left) {
+        move |left: Left| match left.call {
+            Call::Command(Command::List { listed, .. })
+                if listed == of && *left.answer == Answer::Done =>
+            {
+                let places = left.bytes.as_chunks_mut::<8>().0;
+                let end = places.iter().position(|place| place[..4] == [0xFF; 4]);
+                change(&mut places[..end.expect("an end mark")], left.before);
+            }
+            _ => {}
+        }
+    }
+
+    #[test]
+    fn impostors_of_the_lists_order_are_found() {
+        type Change = fn(&mut [[u8; 8]], &Table);
+        fn serial(table: &Table, descriptor: &[u8; 8]) -> u32 {
+            table.blocks[usize::from(descriptor[0])].serial
+        }
+        let changes: [(&str, Change); 9] = [
+            ("by falling serial", |list, _| list.reverse()),
+            ("by number", |list, _| list.sort_by_key(|one| one[0])),
+            ("the last two exchanged", |list, _| {
+                if let [.., one, other] = list {
+                    std::mem::swap(one, other);
+                }
+            }),
+            ("the last two exchanged, of many", |list, _| {
+                if let Some([.., one, other]) = list.get_mut(32..) {
+                    std::mem::swap(one, other);
+                }
+            }),
+            ("one block twice", |list, _| {
+                if let [.., one, other] = list {
+                    *other = *one;
+                }
+            }),
+            ("by P/E count", |list, table| {
+                list.sort_by_key(|one| table.blocks[usize::from(one[0])].erases);
+            }),
+            ("by the low byte of the serial", |list, table| {
+                list.sort_by_key(|one| (serial(table, one) as u8, one[0]));
+            }),
+            ("by the serial without its low byte", |list, table| {
+                list.sort_by_key(|one| (serial(table, one) >> 8, one[0]));
+            }),
+            ("by the serial with a sign", |list, table| {
+                list.sort_by_key(|one| serial(table, one) as i32);
+            }),
+        ];
+        for (name, change) in changes {
+            for of in [Listed::Open, Listed::Closed] {
+                assert!(is_found(lister(of, change)), "{name}, {of:?}");
+            }
+        }
+        // One that leaves the lists as they are is not.
+        assert!(!is_found(lister(Listed::Open, |_, _| ())));
+    }
+
     #[test]
     fn impostors_of_the_recorder_are_found() {
         // An append that frees another Closed block than the one with the least serial.
@@ -763,7 +869,7 @@ mod tests {
         // One that frees nothing, and answers 13.
         assert!(is_found(|left| {
             if matches!(left.call, Call::Append { .. }) && *left.answer == Answer::Done {
-                let freed = met(&left.call, left.before, left.table)[0];
+                let freed = met(&left.call, left.before, left.table)[4];
                 if freed {
                     *left.answer = Answer::Refused(13);
                     *left.table = left.before.clone();

@@ -70,6 +70,7 @@ fn main() -> ExitCode {
             print_growth(&rows, &times);
             print_appends(&rows, &times);
             print_strides(&rows, &times);
+            print_lists(&rows, &times);
             ExitCode::SUCCESS
         }
         Err(difference) => {
@@ -331,6 +332,7 @@ fn all_rows() -> Vec<Row> {
     rows.extend(DRIVES.iter().flat_map(|&blocks| recordings(&Busy::new(shape(blocks, 1, 1)))));
     rows.extend(DRIVES.iter().flat_map(|&blocks| other_tables(shape(blocks, 1, 1))));
     rows.extend(DRIVES.iter().flat_map(|&blocks| strides(shape(blocks, 1, 1))));
+    rows.extend(lists());
     for row in &rows {
         assert!(row.is_as_said(), "{} at S {} goes otherwise", row.name, row.blocks());
     }
@@ -473,6 +475,36 @@ fn strides(config: Config) -> Vec<Row> {
         .into()
 }
 
+/// What is listed, and the name by which its rows begin.
+const LISTS: [(Listed, &str); 2] = [(Listed::Open, "List open"), (Listed::Closed, "List closed")];
+/// So many blocks are listed, of a drive of 256.
+const LENGTHS: [u64; 4] = [1, 16, 64, 256];
+
+fn list_of(name: &str, length: u64) -> String {
+    format!("{name}, {length} of 256 listed")
+}
+
+/// Lists of several lengths, on a full drive whose serials are as after long use.
+fn lists() -> Vec<Row> {
+    let config = shape(256, 1, 1);
+    let row = |listed, name, length| {
+        let list = Command::List { domain: OWN, listed };
+        Busy::full(config, listed, length).row(&list_of(name, length), &[list])
+    };
+    LISTS
+        .iter()
+        .flat_map(|&(listed, name)| LENGTHS.map(|length| row(listed, name, length)))
+        .collect()
+}
+
+/// Another number of 32 bits for each, and 0 for 0 alone: the last step of Murmur's hash.
+fn scattered(number: u32) -> u32 {
+    let mut word = number;
+    word = (word ^ word >> 16).wrapping_mul(0x85EB_CA6B);
+    word = (word ^ word >> 13).wrapping_mul(0xC2B2_AE35);
+    word ^ word >> 16
+}
+
 // Drives in other states.
 impl Busy {
     fn unused(config: Config) -> Busy {
@@ -535,6 +567,47 @@ impl Busy {
         }
         for domain in &mut busy.table.domains[..domains as usize] {
             domain.last = 8_192;
+        }
+        assert!(busy.table.is_sound());
+        busy
+    }
+
+    /// Every block is held: so many by domain 1, all of them open or all Closed, and the others by
+    /// the other domains, open and Closed, in both ways. Neither its holder nor its serial follows
+    /// from where a block's number stands among the others.
+    fn full(config: Config, listed: Listed, length: u64) -> Busy {
+        let mut busy = Busy::unused(config);
+        for domain in 1..=DOMAINS {
+            busy.create(domain, 0);
+        }
+        let mut numbers: Vec<u64> = (0..config.blocks).collect();
+        numbers.sort_by_key(|&number| scattered(number as u32 + 1_000));
+        let mut owns = vec![false; config.blocks as usize];
+        for &number in &numbers[..length as usize] {
+            owns[number as usize] = true;
+        }
+        // The blocks that each domain has got.
+        let mut turns = [0; DOMAINS as usize];
+        for number in 0..config.blocks {
+            let domain = if owns[number as usize] { OWN } else { number % (DOMAINS - 1) + OWN + 1 };
+            let turn = &mut turns[domain as usize - 1];
+            let open = if domain == OWN { listed == Listed::Open } else { *turn % 4 == 0 };
+            match (open, *turn) {
+                // An open block at each placement, the others by Erase.
+                (true, placement @ 0..PLACEMENTS) => busy.write(domain, placement, Some(60)),
+                (true, _) => busy.erase_and_write(domain, number, Some(50)),
+                (false, turn) if turn % 2 == 0 => busy.erase_and_write(domain, number, None),
+                (false, _) => busy.write(domain, IDLE, None),
+            }
+            *turn += 1;
+            assert_eq!(u64::from(busy.table.blocks[number as usize].holder), domain);
+        }
+        for (block, number) in busy.table.blocks.iter_mut().zip(1..) {
+            block.serial = scattered(number);
+            block.erases = block.serial % 4_000;
+        }
+        for domain in &mut busy.table.domains[..DOMAINS as usize] {
+            domain.last = u32::MAX;
         }
         assert!(busy.table.is_sound());
         busy
@@ -854,6 +927,28 @@ fn print_strides(rows: &[Row], times: &[Times]) {
     }
 }
 
+/// How the proved library's time stands to that of the manager in Rust, for lists by their length.
+fn print_lists(rows: &[Row], times: &[Times]) {
+    let mut headed = false;
+    for (_, name) in LISTS {
+        let ratio = |length: u64| {
+            let name = list_of(name, length);
+            let measured = rows.iter().zip(times).find(|(row, _)| row.name == name);
+            measured.map(|(_, times)| times.other / times.rust)
+        };
+        let [Some(one), Some(two), Some(three), Some(four)] = LENGTHS.map(ratio) else {
+            continue;
+        };
+        if !headed {
+            let [a, b, c, d] = LENGTHS;
+            let title = "Rattle / Rust, by blocks listed of 256";
+            println!("\n{title:42} {a:>7} {b:>7} {c:>7} {d:>7}");
+            headed = true;
+        }
+        println!("{name:42} {one:>7.2} {two:>7.2} {three:>7.2} {four:>7.2}");
+    }
+}
+
 #[cfg(test)]
 mod tests {
     use super::*;
@@ -865,7 +960,27 @@ mod tests {
             let same = |other: &Row| other.name == row.name && other.blocks() == row.blocks();
             assert!(!rows[..i].iter().any(same), "{} {}", row.name, row.blocks());
         }
-        assert_eq!(rows.len(), 4 * 18 + 12 + 3 + 4 * 8 + 4 * 10 + 4 * 5);
+        assert_eq!(rows.len(), 4 * 18 + 12 + 3 + 4 * 8 + 4 * 10 + 4 * 5 + 8);
+    }
+
+    #[test]
+    fn a_full_drive_lists_as_many_as_its_row_says() {
+        for (listed, _) in LISTS {
+            for length in LENGTHS {
+                let mut busy = Busy::full(shape(256, 1, 1), listed, length);
+                let blocks = &busy.table.blocks;
+                assert!(blocks.iter().all(|block| block.state != State::Free));
+                let own = blocks.iter().filter(|block| u64::from(block.holder) == OWN);
+                assert_eq!(own.clone().count() as u64, length);
+                assert!(length == 1 || !own.is_sorted_by_key(|block| block.serial));
+                let serials = || blocks.iter().map(|block| block.serial);
+                assert!(serials().min() < Some(1 << 28) && serials().max() > Some(15 << 28));
+                busy.bytes.fill(0xA5);
+                busy.serve(Command::List { domain: OWN, listed });
+                let end = busy.bytes.chunks(8).position(|place| place[..4] == [0xFF; 4]);
+                assert_eq!(end, Some(length as usize));
+            }
+        }
     }
 
     #[test]

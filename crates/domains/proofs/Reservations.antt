@@ -22,7 +22,7 @@ use Rattle.model.specs.declared.table.Table.{Table}
 use Rattle.rules.specs.Calls.{calling, profile}
 use Rattle.rules.specs.Domains.{arePlaneCounts, changedDomain, coveredWith}
 use Rattle.rules.specs.Drive.{heldCount, withDomain}
-use Rattle.rules.specs.Effects.{Fills, changing, effect}
+use Rattle.rules.specs.Effects.{changing, dueBytes, effect}
 use Rattle.rules.specs.Questions.{laterQuestions}
 use Rattle.scan.proofs.Outcomes.{change-outcome, then-outcome}
 use Rattle.scan.proofs.Seeing.{changed-domain}
@@ -73,7 +73,7 @@ pub reserving-outcome : (t : Table) (d : ℕ) (c : Command) (new : Domain) (stor
     → Begins t c (length store)
     → laterQuestions c (drive t store) (calling c store words bytes) ≡ ask 6 true ∷ ask 14 (coveredWith t d (new .reserved) (heldCount t d)) ∷ []
     → effect (drive t store) (calling c store words bytes) ≡ changing [] (withDomain d new t) (drive t store)
-    → Fills (profile c .bytes) t []
+    → [] ≡ dueBytes t (profile c .bytes)
     → ServesCommand t c store words bytes (served (outcomeServed t (reserved t d new)) store words bytes)
 unfolding reserved firstNo
 reserving-outcome t d c new store words bytes id first then does bytes-are =

@@ -32,6 +32,7 @@ use Rattle.model.specs.declared.command.Command.the-variants.{WriteByBlock, Wri
 use Rattle.model.specs.declared.table.Table.{Table}
 use Rattle.rules.proofs.Counting.{all-each}
 use Rattle.rules.proofs.Drive.{overwritten-nothing}
+use Rattle.rules.proofs.Effects.{fills-no-bytes}
 use Rattle.rules.proofs.Kept.Calls.{Course, course-step}
 use Rattle.rules.proofs.Laws.{always-answered, questions-in-order, start-accepted}
 use Rattle.rules.proofs.Noninterference.Moments.{begun-course}
@@ -40,7 +41,7 @@ use Rattle.rules.specs.Calls.{Asked, BytesDue, Call, append, callingFor, comman
 use Rattle.rules.specs.Claims.{rising}
 use Rattle.rules.specs.Counting.{allTo}
 use Rattle.rules.specs.Drive.{Drive, overwritten}
-use Rattle.rules.specs.Effects.{FillsIf, accepted, answerTo, effect, effectFor, effectOf, erasing, questions, step, verdict}
+use Rattle.rules.specs.Effects.{accepted, answerTo, effect, effectFor, effectOf, erasing, questions, step, verdict}
 use Rattle.rules.specs.Runs.{begun}
 use Rattle.rules.specs.Start.{Started, emptyTable}
 use Rattle.tables.specs.Serving.{ServesCommand, ServesFor, drive, served}
@@ -239,25 +240,14 @@ any-result t x store words bytes =
 no-bytes-left : (t : Table) (x : Asked) (store words : List ℕ) → profileOf x .bytes ≡ noBytes → (r : Result t x store words [])
     → ServesFor t x store words [] (served (r .result) (r .store') (r .words') [])
 no-bytes-left t x store words none-due r =
-    let f = r .serves .fills-bytes in
     record {
       answers = r .serves .answers;
       leaves = r .serves .leaves;
       fills-words = r .serves .fills-words;
-      fills-bytes = (
-        f .0,
-        f .1,
-        sym (overwritten-none (f .0) (nothing (accepted (drive t store) (callingFor x store words [])) (f .0)
-            (subst (λ (due : BytesDue). FillsIf (accepted (drive t store) (callingFor x store words [])) due t (f .0)) none-due (f .1)))),
-      );
+      fills-bytes =
+          sym (overwritten-nothing [])
+          ∙ ap (λ (l : List ℕ). overwritten 0 l []) (sym (fills-no-bytes (drive t store) (callingFor x store words []) none-due));
     }
-  where
-    nothing : (b : Bool) (bytes : List ℕ) → FillsIf b noBytes t bytes → bytes ≡ []
-    nothing true bytes e = e
-    nothing false bytes e = e
-
-    overwritten-none : (bytes : List ℕ) → bytes ≡ [] → overwritten 0 bytes [] ≡ []
-    overwritten-none bytes e = ap (λ (l : List ℕ). overwritten 0 l []) e ∙ overwritten-nothing []
 
 any-call : (form : Bool) (t : Table) (x : Asked) (store words bytes : List ℕ) → Any form t x store words bytes
 any-call form t (command c) store words bytes =

@@ -19,7 +19,7 @@ use Rattle.rules.proofs.Questions.{answered-yes}
 use Rattle.rules.specs.Blocks.{erasedBlock}
 use Rattle.rules.specs.Calls.{Asked, BytesDue, Call, _asking_, _for_, append, command, latest, profile, profileOf, wordCount}
 use Rattle.rules.specs.Drive.{Drive}
-use Rattle.rules.specs.Effects.{BytesFilled, FillsIf, accepted, byteCount, effect, erasing, questions, verdict, wordsFilled}
+use Rattle.rules.specs.Effects.{accepted, byteCount, bytesFilled, effect, erasing, questions, verdict, wordsFilled}
 
 -- Erase fills no words, whatever block it opens, ..
 erase-fills-none : (d : ℕ) (block : Option ℕ) (v : Drive) → erasing d block v .words ≡ []
@@ -66,11 +66,9 @@ module _ (v : Drive) (course : Course v) (k : Call) where
       (λ e. ap length (refused-fills-none v k e) ∙ rw e)
 
   -- .. and the bytes.
-  bytes-if : (b : Bool) (due : BytesDue) (filled : List ℕ) → FillsIf b due (v .table) filled
-      → length filled ≡ cond b (byteCount (v .table) due) 0
-  bytes-if true due filled f = bytes-counted (v .table) due filled f
-  bytes-if false due filled f = ap length f
-
-  pub bytes-due : (filled : List ℕ) → BytesFilled v k filled
-      → length filled ≡ cond (accepted v k) (byteCount (v .table) (profileOf (k .asks) .bytes)) 0
-  bytes-due filled f = bytes-if (accepted v k) (profileOf (k .asks) .bytes) filled f
+  pub bytes-due : length (bytesFilled v k) ≡ cond (accepted v k) (byteCount (v .table) (profileOf (k .asks) .bytes)) 0
+  unfolding bytesFilled
+  bytes-due =
+      by-test (accepted v k)
+      (λ e. rw e (bytes-counted v k (k .asks) (eqb-true (verdict v k) 0 e)))
+      (λ e. rw e)

@@ -1,22 +1,21 @@
 -- A store of a wrong length is refused by question 3, and a command that is not asked question 3 never looks at it: what a call gives is
 -- what it would give with the run's own store, which stays as it was.
 use Prim.Native.Nat.{ℕ, suc}
-use mathlib.Core.Bool.{Bool, true, false, true≢false}
+use mathlib.Core.Bool.{true, false, true≢false}
 use mathlib.Core.List.{List}
-use mathlib.Core.Path.{_≡_, refl, sym, ap₂, _∙_, subst}
+use mathlib.Core.Path.{_≡_, refl, sym, ap₂, _∙_}
 use native.Mathlib.Omega.{arith}
-use lib.Dec.{eqb}
 use borrow.Author.Tests.{ne-eqb}
 use Rattle.geometry.proofs.Laws.Questions.{answered-no}
 use Rattle.geometry.proofs.Laws.Shape.{by-test}
-use Rattle.geometry.specs.Questions.{Question, answered, firstNo}
+use Rattle.geometry.specs.Questions.{answered, firstNo}
 use Rattle.model.specs.declared.command.Command.{Command}
 use Rattle.model.specs.declared.command.Command.the-variants.{ChangeCapacity, Close, Create, Delete, Erase, Free, List as Listing, Page, Pulse, Read}
 use Rattle.model.specs.declared.command.Command.the-variants.{WriteByBlock, WriteByPlacement}
 use Rattle.model.specs.declared.table.Table.{Table}
 use Rattle.rules.specs.Calls.{Asked, Call, _asking_, _for_, append, command, latest, profile, profileOf}
 use Rattle.rules.specs.Drive.{Drive}
-use Rattle.rules.specs.Effects.{BytesFilled, FillsIf, accepted, answerTo, effect, questions, step, verdict, wordsFilled}
+use Rattle.rules.specs.Effects.{accepted, answerTo, bytesFilled, effect, questions, step, verdict, wordsFilled}
 use Rattle.rules.specs.Questions.{storeFits}
 use Rattle.rules.specs.Soundness.{sound}
 use Rattle.tables.specs.Serving.{drive}
@@ -27,7 +26,7 @@ pub record SameGiven (t : Table) (store other : List ℕ) (k : Call) : Type 0 wh
   pub table : step k (drive t other) .table ≡ step k (drive t store) .table
   pub keeps : step k (drive t store) .store ≡ store
   pub words : wordsFilled (drive t other) k ≡ wordsFilled (drive t store) k
-  pub bytes : (filled : List ℕ) → BytesFilled (drive t other) k filled → BytesFilled (drive t store) k filled
+  pub bytes : bytesFilled (drive t other) k ≡ bytesFilled (drive t store) k
 
 module _ (t : Table) (store other : List ℕ) (k : Call) where
   abbrev v : Drive
@@ -43,18 +42,18 @@ module _ (t : Table) (store other : List ℕ) (k : Call) where
       → effect v k .drive .store ≡ store
       → effect w k .words ≡ effect v k .words
       → SameGiven t store other k
-  unfolding step wordsFilled
+  unfolding step wordsFilled bytesFilled
   unasked qs values table keeps words = record {
     answers = ap₂ answered qs values;
     table = by-test (accepted v k) (λ e. rw (qs, e) table) (λ e. rw (qs, e));
     keeps = by-test (accepted v k) (λ e. rw e keeps) (λ e. rw e);
     words = by-test (accepted v k) (λ e. rw (qs, e) words) (λ e. rw (qs, e));
-    bytes = λ filled f. subst (λ (q : List Question). FillsIf (eqb (firstNo q) 0) (profileOf (k .asks) .bytes) t filled) qs f;
+    bytes = by-test (accepted v k) (λ e. rw (qs, e)) (λ e. rw (qs, e));
   }
 
   -- A command that is refused.
   refused : (n : ℕ) → verdict v k ≡ suc n → verdict w k ≡ suc n → SameGiven t store other k
-  unfolding step wordsFilled
+  unfolding step wordsFilled bytesFilled
   refused n e f =
       let no : accepted v k ≡ false = ne-eqb (verdict v k) 0 (λ z. omega (arith, e, z)) in
       let no' : accepted w k ≡ false = ne-eqb (verdict w k) 0 (λ z. omega (arith, f, z)) in
@@ -65,7 +64,7 @@ module _ (t : Table) (store other : List ℕ) (k : Call) where
         table = rw (no, no');
         keeps = rw no;
         words = rw (no, no');
-        bytes = λ filled b. subst (λ (x : Bool). FillsIf x (profileOf (k .asks) .bytes) t filled) (no' ∙ sym no) b;
+        bytes = rw (no, no');
       }
 
   -- One that is asked question 3, by its first no.

@@ -19,7 +19,7 @@ use Rattle.model.specs.declared.table.Table.{Table}
 use Rattle.rules.proofs.Kept.Calls.{Course}
 use Rattle.rules.specs.Calls.{profileOf, wordCount}
 use Rattle.rules.specs.Drive.{Drive, overwritten}
-use Rattle.rules.specs.Effects.{BytesFilled, accepted, answerTo, byteCount, effect, questions, step, verdict, wordsFilled}
+use Rattle.rules.specs.Effects.{accepted, answerTo, byteCount, bytesFilled, effect, questions, step, verdict, wordsFilled}
 use Rattle.rules.specs.Observation.{Replies}
 use Rattle.tables.specs.Serving.{drive}
 
@@ -32,7 +32,7 @@ front new row = take-append-seam new (drop (length new) row)
 record Gives (k : ProgramCall) (v : Drive) : Type 0 where
   answers : handedBack k .answer ≡ answerTo v (callOf k)
   fills-words : handedBack k .words ≡ overwritten 0 (wordsFilled v (callOf k)) (given k .words)
-  fills-bytes : (filled : List ℕ) × BytesFilled v (callOf k) filled × (handedBack k .bytes ≡ overwritten 0 filled (given k .bytes))
+  fills-bytes : handedBack k .bytes ≡ overwritten 0 (bytesFilled v (callOf k)) (given k .bytes)
 
 -- So its reply is what the rules give, and nothing beyond it is touched.
 record Told (k : ProgramCall) (v : Drive) : Type 0 where
@@ -44,24 +44,23 @@ told : (k : ProgramCall) (v : Drive) → Course v → Gives k v → Told k v
 told k v course g =
     let call = callOf k in
     let p = profileOf (given k .asks) in
-    let filled = g .fills-bytes .0 in
     let number : handedBack k .answer .number ≡ verdict v call =
     ap (λ (o : Outcome). o .number) (g .answers) ∙ answered-number (questions v call) (effect v call .values) in
     let many : (n : ℕ) → ifSuccess k n ≡ cond (accepted v call) n 0 = λ n. ap (λ (m : ℕ). cond (eqb m 0) n 0) number in
     let words-are : replyOf v k .words ≡ wordsFilled v call =
     ap₂ take (many (wordCount (p .words)) ∙ sym (words-due v course call)) (g .fills-words)
     ∙ front (wordsFilled v call) (given k .words) in
-    let bytes-are : replyOf v k .bytes ≡ filled =
-    ap₂ take (many (byteCount (v .table) (p .bytes)) ∙ sym (bytes-due v course call filled (g .fills-bytes .1))) (g .fills-bytes .2)
-    ∙ front filled (given k .bytes) in
+    let bytes-are : replyOf v k .bytes ≡ bytesFilled v call =
+    ap₂ take (many (byteCount (v .table) (p .bytes)) ∙ sym (bytes-due v course call)) (g .fills-bytes)
+    ∙ front (bytesFilled v call) (given k .bytes) in
     record {
       replied = record {
         answers = g .answers;
         fills-words = words-are;
-        fills-bytes = subst (BytesFilled v call) (sym bytes-are) (g .fills-bytes .1);
+        fills-bytes = bytes-are;
       };
       words = g .fills-words ∙ ap (λ (l : List ℕ). overwritten 0 l (given k .words)) (sym words-are);
-      bytes = g .fills-bytes .2 ∙ ap (λ (l : List ℕ). overwritten 0 l (given k .bytes)) (sym bytes-are);
+      bytes = g .fills-bytes ∙ ap (λ (l : List ℕ). overwritten 0 l (given k .bytes)) (sym bytes-are);
     }
 
 -- The call as the program makes it.
@@ -105,7 +104,7 @@ other-step k store course other =
     (record {
       answers = s .answers ∙ g .answers;
       fills-words = s .fills-words ∙ ap (λ (filled : List ℕ). overwritten 0 filled (given k .words)) (g .words);
-      fills-bytes = (s .fills-bytes .0, g .bytes (s .fills-bytes .0) (s .fills-bytes .1), s .fills-bytes .2);
+      fills-bytes = s .fills-bytes ∙ ap (λ (filled : List ℕ). overwritten 0 filled (given k .bytes)) (g .bytes);
     }) in
     record {
       leaves = rw other (ap₂ drive (ap (λ (u : Drive). u .table) (s .leaves) ∙ g .table) (sym (g .keeps)));

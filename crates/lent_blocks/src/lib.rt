@@ -14,8 +14,10 @@ use scan::chain_before;
 use scan::choose;
 use scan::holder_index;
 use scan::no_candidate;
+use scan::no_keys;
 use scan::not_sound;
-use scan::put_listed;
+use scan::note_listed;
+use scan::put_order;
 use scan::same_serial;
 use scan::scan_block;
 use tables::Change;
@@ -31,7 +33,7 @@ ghost use Rattle.placements.specs.Onwards.{MayGoOn, OpenedNext, WroteOnwards, r
 ghost use Rattle.tables.specs.Changing.{changedBlocks, presentBlocks};
 ghost use Rattle.scan.specs.Marks.{markCount};
 ghost use Rattle.scan.specs.Free.{Chosen, noCandidate};
-ghost use Rattle.scan.specs.Listing.{listedFrom};
+ghost use Rattle.scan.specs.Listing.{keyCount, listedFrom, notedFrom};
 ghost use Rattle.scan.specs.Scan.{Walked, chainPasses};
 
 // Has no block of a chain, from one on that is counted from 1, the serial of this one? 257 is no chain. Each block
@@ -99,16 +101,28 @@ pub fn choose_free(blocks: &[Block], most: usize) -> Candidate
     best
 }
 
-// What a list tells of each of so many blocks, in the marks.
-pub fn gather_list(blocks: &[Block], most: usize, subject: Subject, marks: &mut [u16])
-    requires { ⌜ (most ≤ length (now blocks)) × (length (now blocks) ≤ 256) × (length (now marks) ≡ markCount) ⌝ }
-    ensures { λ _. ⌜ now (marks .exit) ≡ listedFrom subject 0 (take most (now (blocks .entry))) (now (marks .entry)) ⌝ }
+// The keys of those of so many blocks that are listed.
+fn note_blocks(blocks: &[Block], most: usize, subject: Subject, keys: &mut [u64])
+    requires { ⌜ (most ≤ length (now blocks)) × (length (now blocks) ≤ 256) × (length (now keys) ≡ keyCount) ⌝ }
+    ensures { λ _. ⌜ now (keys .exit) ≡ notedFrom subject 0 (take most (now (blocks .entry))) (now (keys .entry)) ⌝ }
 {
     let mut n = 0;
     while n < most {
         let block = blocks[n];
-        put_listed(subject, n, block, marks);
+        note_listed(subject, n, block, keys);
         n += 1;
+    }
+}
+
+// What a list tells of so many blocks, in the marks. Of none it tells nothing, and needs no row of keys.
+pub fn gather_list(blocks: &[Block], most: usize, subject: Subject, marks: &mut [u16])
+    requires { ⌜ (most ≤ length (now blocks)) × (length (now blocks) ≤ 256) × (length (now marks) ≡ markCount) ⌝ }
+    ensures { λ _. ⌜ now (marks .exit) ≡ listedFrom subject 0 (take most (now (blocks .entry))) (now (marks .entry)) ⌝ }
+{
+    if 0 < most {
+        let mut keys = no_keys();
+        note_blocks(blocks, most, subject, &mut keys);
+        put_order(&mut keys, marks);
     }
 }
 

@@ -4,10 +4,11 @@ use mathlib.Core.Bool.{Bool, true, false, _&&_, cond}
 use mathlib.Core.List.{[]}
 use mathlib.Core.Path.{_≡_, refl, sym, _∙_}
 use native.Mathlib.Omega.{arith}
+use lib.ListN.{length}
 use borrow.Author.Tests.{ne-eqb}
 use Rattle.geometry.proofs.Laws.Shape.{is-between}
 use Rattle.geometry.specs.Address.{isDomainId}
-use Rattle.log_pages.specs.LogPages.{lengthSeen}
+use Rattle.log_pages.specs.LogPages.{countSeen, lengthSeen}
 use Rattle.model.specs.declared.block.Block.{Block}
 use Rattle.model.specs.declared.block.State.{State}
 use Rattle.model.specs.declared.block.State.the-variants.{Closed, Free, Open}
@@ -17,8 +18,9 @@ use Rattle.model.specs.declared.table.Table.{Table}
 use Rattle.rules.proofs.Counting.{sum-add, sum-same}
 use Rattle.rules.proofs.Kept.Facts.{BlockFacts, StateFacts}
 use Rattle.rules.proofs.Kept.Tested.{facts-of}
+use Rattle.rules.proofs.LogPages.{listed-many}
 use Rattle.rules.specs.Drive.{blockAt, closedCount, closedOf, heldBy, heldCount, isClosedState, isOpenState, openCount, openOf, size}
-use Rattle.rules.specs.LogPages.{listLength}
+use Rattle.rules.specs.LogPages.{listLength, listedBlocks, listedCount}
 use Rattle.rules.specs.Soundness.{sound}
 use Rattle.scan.specs.Summary.{Sees}
 use Rattle.scan.specs.declared.summary.Summary.{Summary}
@@ -59,7 +61,15 @@ counts-seen t d x s e id =
 pub few-open : (t : Table) (d : ℕ) (x : Summary) → Sees t d x → x .sound ≡ true → isDomainId d ≡ true → x .opened ≤ x .held
 few-open t d x s e id = let h = counts-seen t d x s e id in omega (arith, h .0, h .1)
 
--- .. and a list is as long as in the table.
+-- .. and as many are listed as in the table.
+pub count-seen : (t : Table) (d : ℕ) (which : Listed) (x : Summary) → Sees t d x → x .sound ≡ true → isDomainId d ≡ true
+    → countSeen x which ≡ length (listedBlocks t d which)
+count-seen t d which x s e id = counted which ∙ sym (listed-many (drive t []) d (is-between 1 16 d id .least) (facts-of (drive t []) (sym (s .tested) ∙ e)) which)
+  where
+    counted : (which : Listed) → countSeen x which ≡ listedCount t d which
+    counted listed.Open = counts-seen t d x s e id .0
+    counted listed.Closed = let h = counts-seen t d x s e id in omega (arith, h .0, h .1)
+
 pub length-seen : (t : Table) (d : ℕ) (which : Listed) (x : Summary) → Sees t d x → x .sound ≡ true → isDomainId d ≡ true
     → lengthSeen x which ≡ listLength t d which
 length-seen t d listed.Open x s e id = let h = counts-seen t d x s e id in omega (arith, h .0)

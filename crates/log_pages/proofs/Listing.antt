@@ -1,35 +1,24 @@
--- A list that is filled in descriptor by descriptor.
-use Prim.Native.Nat.{ℕ, zero, suc, _+_, _-_, _≤_}
-use mathlib.Core.Bool.{true, cond}
+-- A list that is filled in descriptor by descriptor, and what the marks tell is the list.
+use Prim.Native.Nat.{ℕ, zero, suc, _+_, _*_, _≤_, _<_}
+use mathlib.Core.Bool.{true}
 use mathlib.Core.List.{List, [], _∷_, _++_, append-assoc, append-nil}
-use mathlib.Core.Path.{_≡_, refl, sym, ap, _∙_}
+use mathlib.Core.Path.{_≡_, refl, sym, ap, ap₂, _∙_}
 use native.Mathlib.Nat.{zero-add}
 use native.Mathlib.Numerals.{add-one}
 use native.Mathlib.Omega.{arith}
-use lib.Dec.{eqb}
-use lib.ListN.{length, length-append}
-use borrow.Author.Tests.{eq-eqb, ne-eqb}
-use Rattle.geometry.proofs.Laws.Shape.{by-test}
+use lib.ListN.{getD, length, length-append, take}
+use lib.Seq.{take-all, take-suc}
 use Rattle.geometry.specs.Bytes.{littleEndian}
-use Rattle.log_pages.proofs.Filling.{Filled}
-use Rattle.log_pages.specs.LogPages.{markedBytes, markedTo}
+use Rattle.log_pages.specs.LogPages.{descriptorsTo, toldBytes}
 use Rattle.model.specs.declared.block.Block.{Block}
-use Rattle.model.specs.declared.block.State.the-variants as state
 use Rattle.model.specs.declared.command.Listed.{Listed}
-use Rattle.model.specs.declared.command.Listed.the-variants.{Closed, Open}
 use Rattle.model.specs.declared.table.Table.{Table}
-use Rattle.rules.proofs.Counting.{by-eq, numbers-once}
 use Rattle.rules.proofs.Drive.{fill-then}
-use Rattle.rules.proofs.LogPages.{closed-list-length, open-list-length}
 use Rattle.rules.proofs.Store.{length-overwritten}
-use Rattle.rules.specs.Calls.{listBytes}
-use Rattle.rules.specs.Counting.{numbersTo}
-use Rattle.rules.specs.Drive.{blockAt, openOf, overwritten, size}
-use Rattle.rules.specs.Effects.{Fills}
-use Rattle.rules.specs.LogPages.{closedList, descriptor, descriptorOf, endMark, listLength, listOf}
-use Rattle.scan.specs.Listing.{byteTold, indexTold, isListed, listMark}
-use Rattle.scan.specs.Summary.{SeesList}
-use Rattle.scan.specs.declared.summary.Summary.{Summary}
+use Rattle.rules.specs.Drive.{blockAt, overwritten}
+use Rattle.rules.specs.LogPages.{descriptor, descriptorOf, endMark, list, listMark, listOf, listedBlocks}
+use Rattle.scan.specs.Listing.{byteTold, indexTold, numberTold}
+use Rattle.scan.specs.Summary.{ToldAt}
 
 -- ---- A list on the way
 
@@ -43,116 +32,57 @@ fields-length : (n index mark : ℕ) → length (descriptorOf n index mark) ≡ 
 unfolding littleEndian
 fields-length n index mark = refl
 
--- Fewer blocks have no more descriptors.
-marked-le : (marks : List ℕ) (n m : ℕ) → n ≤ m → length (markedTo marks n) ≤ length (markedTo marks m)
-unfolding markedTo
-marked-le marks n zero l = let e : n ≡ 0 = omega arith in rw e (omega arith)
-marked-le marks n (suc m) l =
-    by-eq n (suc m)
-    (λ e. rw e (omega arith))
-    (λ e. omega (arith, marked-le marks n m (omega arith), length-append (markedTo marks m) (cond (eqb (byteTold marks m) 0) [] (descriptorOf m (indexTold marks m) (byteTold marks m - 1)))))
+descriptors-length : (marks : List ℕ) (n : ℕ) → length (descriptorsTo marks n) ≡ 8 * n
+unfolding descriptorsTo
+descriptors-length marks zero = refl
+descriptors-length marks (suc n) =
+    let d = descriptorOf (numberTold marks n) (indexTold marks n) (byteTold marks n) in
+    length-append (descriptorsTo marks n) d
+    ∙ omega (arith, descriptors-length marks n, fields-length (numberTold marks n) (indexTold marks n) (byteTold marks n))
 
--- Of so many blocks, the descriptors of those below n stand at the front, and the next comes behind them.
-pub record Begun (marks : List ℕ) (blocks n at : ℕ) (first bytes : List ℕ) : Type 0 where
-  pub filled : Filled 0 at (markedTo marks n) first bytes
-  pub below : n ≤ blocks
+-- The first n descriptors stand at the front, and the bytes are as many as they were.
+pub record Begun (marks : List ℕ) (count n : ℕ) (first bytes : List ℕ) : Type 0 where
+  pub are : bytes ≡ overwritten 0 (descriptorsTo marks n) first
+  pub as-long : length bytes ≡ length first
+  pub below : n ≤ count
 
--- At first there are none.
-pub begun : (marks : List ℕ) (blocks : ℕ) (first : List ℕ) → Begun marks blocks 0 0 first first
-unfolding markedTo overwritten
-begun marks blocks first = record { filled = record { are = refl; long = refl }; below = omega arith }
+pub begun : (marks : List ℕ) (count : ℕ) (first : List ℕ) → Begun marks count 0 first first
+unfolding descriptorsTo overwritten
+begun marks count first = record { are = refl; as-long = refl; below = omega arith }
 
--- What is filled in behind what stands at the front stands there too.
-behind : {k : ℕ} {row first bytes last : List ℕ} (new : List ℕ) → Filled 0 k row first bytes → last ≡ overwritten k new bytes
-    → last ≡ overwritten 0 (row ++ new) first
-behind {k} {row} {first} new f e =
-    e ∙ rw (f .are, ← f .long, ← zero-add (length row)) (fill-then 0 row new first (omega arith))
+-- What is filled in behind them stands there too.
+behind : {marks first bytes last : List ℕ} {count n : ℕ} (new : List ℕ) → Begun marks count n first bytes → last ≡ overwritten (8 * n) new bytes
+    → last ≡ overwritten 0 (descriptorsTo marks n ++ new) first
+behind {marks} {first} {n = n} new b e =
+    let row = descriptorsTo marks n in
+    let at : 8 * n ≡ 0 + length row = omega (arith, descriptors-length marks n) in
+    e ∙ ap₂ (λ (k : ℕ) (l : List ℕ). overwritten k new l) at (b .are) ∙ fill-then 0 row new first (omega arith)
 
--- A block that is listed brings one descriptor, ..
-pub listed-more : {marks : List ℕ} {blocks n at : ℕ} {first bytes last : List ℕ} → Begun marks blocks n at first bytes
-    → n + 1 ≤ blocks
-    → ¬ (byteTold marks n ≡ 0)
-    → last ≡ overwritten at (descriptorOf n (indexTold marks n) (byteTold marks n - 1)) bytes
-    → Begun marks blocks (n + 1) (at + 8) first last
-unfolding markedTo
-listed-more {marks} {blocks} {n} {at} {first} b l p e =
-    let byte = byteTold marks n in
+-- One descriptor more, ..
+pub one-more : {marks first bytes last : List ℕ} {count n : ℕ} → Begun marks count n first bytes → n < count → 8 * (count + 1) ≤ length first
+    → last ≡ overwritten (8 * n) (descriptorOf (numberTold marks n) (indexTold marks n) (byteTold marks n)) bytes
+    → Begun marks count (n + 1) first last
+unfolding descriptorsTo
+one-more {marks} {first} {n = n} b l room e =
+    let d = descriptorOf (numberTold marks n) (indexTold marks n) (byteTold marks n) in
+    let are = behind d b e in
     record {
-      filled = record {
-        are = behind (descriptorOf n (indexTold marks n) (byte - 1)) (b .filled) e ∙ rw (add-one, ne-eqb byte 0 p);
-        long = rw (add-one, ne-eqb byte 0 p, length-append, b .filled .long, fields-length);
-      };
-      below = l;
+      are = are ∙ rw (add-one);
+      as-long = ap length are ∙ length-overwritten 0 (descriptorsTo marks n ++ d) first
+          (omega (arith, l, room, length-append (descriptorsTo marks n) d, descriptors-length marks n, fields-length (numberTold marks n) (indexTold marks n) (byteTold marks n)));
+      below = omega (arith, l);
     }
 
--- .. and one that is not brings none.
-pub none-more : {marks : List ℕ} {blocks n at : ℕ} {first bytes : List ℕ} → Begun marks blocks n at first bytes → n + 1 ≤ blocks
-    → byteTold marks n ≡ 0
-    → Begun marks blocks (n + 1) at first bytes
-unfolding markedTo
-none-more {marks} {blocks} {n} {at} {first} b l p = record {
-  filled = record {
-    are = rw (add-one, eq-eqb (byteTold marks n) 0 p, append-nil) (b .filled .are);
-    long = rw (add-one, eq-eqb (byteTold marks n) 0 p, append-nil) (b .filled .long);
-  };
-  below = l;
-}
+-- .. and behind the last the end mark.
+pub whole-list : {marks first bytes last : List ℕ} {count n : ℕ} → Begun marks count n first bytes → count ≤ n
+    → last ≡ overwritten (8 * count) (descriptorOf 4294967295 0 0) bytes
+    → last ≡ overwritten 0 (toldBytes marks count) first
+whole-list {marks} {first} {bytes} {count = count} {n = n} b l e =
+    let all : count ≡ n = omega (arith, b .below, l) in
+    behind (descriptorOf 4294967295 0 0) b (e ∙ ap (λ (k : ℕ). overwritten (8 * k) (descriptorOf 4294967295 0 0) bytes) all)
+    ∙ rw (← all, end-fields)
 
--- Where there is room for the whole list there is for one descriptor more, ..
-first-room : {marks : List ℕ} {blocks n at : ℕ} {first bytes : List ℕ} → Begun marks blocks n at first bytes
-    → length (markedBytes marks blocks) ≤ length first
-    → at + 8 ≤ length first
-first-room {marks} {blocks} {n} b l =
-    let end : length endMark ≡ 8 = rw end-fields (fields-length 4294967295 0 0) in
-    omega (arith, b .filled .long, marked-le marks n blocks (b .below), length-append (markedTo marks blocks) endMark, end, l)
-
--- .. the bytes are as many as they were, ..
-pub same-long : {marks : List ℕ} {blocks n at : ℕ} {first bytes : List ℕ} → Begun marks blocks n at first bytes
-    → length (markedBytes marks blocks) ≤ length first
-    → length bytes ≡ length first
-same-long {marks} {blocks} {n} {at} {first} b l =
-    rw (b .filled .are) (length-overwritten 0 (markedTo marks n) first (omega (arith, b .filled .long, first-room b l)))
-
--- .. so that there is room among them, ..
-pub room-for : {marks : List ℕ} {blocks n at : ℕ} {first bytes : List ℕ} → Begun marks blocks n at first bytes
-    → length (markedBytes marks blocks) ≤ length first
-    → at + 8 ≤ length bytes
-room-for b l = omega (arith, first-room b l, same-long b l)
-
--- .. and behind the last comes the end mark.
-pub whole-list : {marks : List ℕ} {blocks n at : ℕ} {first bytes last : List ℕ} → Begun marks blocks n at first bytes
-    → blocks ≤ n
-    → last ≡ overwritten at (descriptorOf 4294967295 0 0) bytes
-    → last ≡ overwritten 0 (markedBytes marks blocks) first
-whole-list {marks} {blocks} {n} b l e =
-    let last : n ≡ blocks = omega (arith, b .below, l) in
-    behind (descriptorOf 4294967295 0 0) (b .filled) e ∙ rw (last, end-fields)
-
--- ---- The whole list
-
--- The two lists, both in ascending number.
-abbrev listedTo : Table → ℕ → Listed → ℕ → List ℕ
-listedTo t d which n = numbersTo (λ i. isListed which d (blockAt t i)) n
-
-unfoldable pub listedBytes : Table → ℕ → Listed → List ℕ
-listedBytes t d which = listOf t (listMark which) (listedTo t d which (size t))
-
--- It is what List fills.
-pub fills-list : (t : Table) (d : ℕ) (which : Listed) → Fills (listBytes d which) t (listedBytes t d which)
-unfolding listedBytes closedList
-fills-list t d Open = record {
-  order = numbersTo (λ n. openOf d (blockAt t n)) (size t);
-  each-once = numbers-once (λ n. openOf d (blockAt t n)) (size t);
-  descriptors = refl;
-}
-fills-list t d Closed = refl
-
--- It is as long as question 7 has it.
-pub listed-length : (t : Table) (d : ℕ) (which : Listed) → length (listedBytes t d which) ≡ listLength t d which
-listed-length t d Open = open-list-length t d (listedBytes t d Open) (fills-list t d Open)
-listed-length t d Closed = ap length (fills-list t d Closed) ∙ closed-list-length t d
-
--- ---- The marks tell the list
+-- ---- What the marks tell is the list
 
 -- The descriptors of a list, without the end mark.
 unfoldable descriptors : Table → (Block → ℕ) → List ℕ → List ℕ
@@ -168,39 +98,32 @@ with-end t mark (n ∷ ns) =
     ∙ sym (append-assoc (descriptor (t .config) mark n (blockAt t n)) (descriptors t mark ns) endMark)
 
 -- One number more brings its descriptor.
-one-more : (t : Table) (mark : Block → ℕ) (ns : List ℕ) (n : ℕ)
+at-end : (t : Table) (mark : Block → ℕ) (ns : List ℕ) (n : ℕ)
     → descriptors t mark (ns ++ (n ∷ [])) ≡ descriptors t mark ns ++ descriptor (t .config) mark n (blockAt t n)
 unfolding descriptors
-one-more t mark [] n = append-nil (descriptor (t .config) mark n (blockAt t n))
-one-more t mark (m ∷ ns) n =
-    ap (λ (l : List ℕ). descriptor (t .config) mark m (blockAt t m) ++ l) (one-more t mark ns n)
+at-end t mark [] n = append-nil (descriptor (t .config) mark n (blockAt t n))
+at-end t mark (m ∷ ns) n =
+    ap (λ (l : List ℕ). descriptor (t .config) mark m (blockAt t m) ++ l) (at-end t mark ns n)
     ∙ sym (append-assoc (descriptor (t .config) mark m (blockAt t m)) (descriptors t mark ns)
     (descriptor (t .config) mark n (blockAt t n)))
 
--- So the descriptors are those that the marks tell, ..
-marked-to : (t : Table) (d : ℕ) (which : Listed) (x : Summary) (marks : List ℕ) → SeesList t d which x marks → x .sound ≡ true
-    → (n : ℕ)
-    → n ≤ size t
-    → markedTo marks n ≡ descriptors t (listMark which) (listedTo t d which n)
-unfolding markedTo descriptors numbersTo
-marked-to t d which x marks s e zero l = refl
-marked-to t d which x marks s e (suc n) l =
-    let before = marked-to t d which x marks s e n (omega arith) in
-    let b = blockAt t n in
-    let byte = s .bytes e n (omega arith) in
-    by-test (isListed which d b)
-    (λ p.
-    let index = s .indexes e n (omega arith) p in
-    let one : byteTold marks n ≡ listMark which b + 1 = byte ∙ rw p in
-    let back : byteTold marks n - 1 ≡ listMark which b = omega (arith, one) in
-    let some : ¬ (byteTold marks n ≡ 0) = λ none. omega (arith, one, none) in
-    rw (p, one-more, ne-eqb (byteTold marks n) 0 some, index, back, before))
-    (λ p.
-    let none : byteTold marks n ≡ 0 = byte ∙ rw p in
-    rw (p, eq-eqb (byteTold marks n) 0 none, append-nil (markedTo marks n), append-nil (listedTo t d which n)) before)
+module _ (t : Table) (which : Listed) (order marks : List ℕ)
+    (told : (i : ℕ) → i < length order → ToldAt t which (getD order i 0) marks i) where
+  told-to : (n : ℕ) → n ≤ length order → descriptorsTo marks n ≡ descriptors t (listMark which) (take n order)
+  unfolding descriptorsTo descriptors
+  told-to zero l = refl
+  told-to (suc n) l =
+      let here = told n (omega (arith, l)) in
+      rw (take-suc order n 0 (omega (arith, l)), at-end t (listMark which) (take n order) (getD order n 0), told-to n (omega (arith, l)), here .number, here .byte, here .index)
 
--- .. and the bytes are the list's.
-pub marked-listed : (t : Table) (d : ℕ) (which : Listed) (x : Summary) (marks : List ℕ) → SeesList t d which x marks → x .sound ≡ true
-    → markedBytes marks (size t) ≡ listedBytes t d which
-unfolding listedBytes
-marked-listed t d which x marks s e = rw (with-end, marked-to t d which x marks s e (size t) (omega arith))
+  pub told-list : toldBytes marks (length order) ≡ listOf t (listMark which) order
+  told-list =
+      ap (λ (l : List ℕ). l ++ endMark) (told-to (length order) (omega arith) ∙ ap (descriptors t (listMark which)) (take-all (length order) order (omega arith)))
+      ∙ sym (with-end t (listMark which) order)
+
+-- So it is for a domain.
+pub told-listed : (t : Table) (d : ℕ) (which : Listed) (marks : List ℕ)
+    → ((i : ℕ) → i < length (listedBlocks t d which) → ToldAt t which (getD (listedBlocks t d which) i 0) marks i)
+    → toldBytes marks (length (listedBlocks t d which)) ≡ list t d which
+unfolding list
+told-listed t d which marks told = told-list t which (listedBlocks t d which) marks told

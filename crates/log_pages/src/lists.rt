@@ -6,11 +6,12 @@ use model::Refusal;
 use scan::Summary;
 use scan::byte_told;
 use scan::index_told;
+use scan::number_told;
 ghost use mathlib.Core.List.{List};
 ghost use mathlib.Core.Path.{_≡_};
-ghost use Prim.Native.Nat.{ℕ, _+_, _≤_};
+ghost use Prim.Native.Nat.{ℕ, _+_, _*_, _≤_};
 ghost use lib.ListN.{length};
-ghost use Rattle.log_pages.specs.LogPages.{lengthSeen, markedBytes};
+ghost use Rattle.log_pages.specs.LogPages.{countSeen, toldBytes};
 ghost use Rattle.model.specs.declared.command.Command.the-variants.{List as Listing};
 ghost use Rattle.model.specs.declared.table.Table.{Table};
 ghost use Rattle.rules.specs.Drive.{overwritten};
@@ -31,37 +32,37 @@ fn put_descriptor(bytes: &mut [u8], at: usize, number: u64, index: u64, mark: u6
     put_field(bytes, at + 6, 2, 0);
 }
 
-// A descriptor for each block that the marks list, in ascending number, and the end mark.
-fn put_list(bytes: &mut [u8], marks: &[u16], blocks: usize)
-    requires { ⌜ (blocks ≤ 256) × (length (now marks) ≡ markCount) ⌝ }
-    requires { ⌜ length (markedBytes (now marks) blocks) ≤ length (now bytes) ⌝ }
-    ensures { λ _. ⌜ now (bytes .exit) ≡ overwritten 0 (markedBytes (now (marks .entry)) blocks) (now (bytes .entry)) ⌝ }
+// A descriptor for each of so many blocks that the marks tell of, in their order, and the end mark.
+fn put_list(bytes: &mut [u8], marks: &[u16], count: usize)
+    requires { ⌜ (count ≤ 256) × (length (now marks) ≡ markCount) × (8 * (count + 1) ≤ length (now bytes)) ⌝ }
+    ensures { λ _.
+        ⌜ now (bytes .exit) ≡ overwritten 0 (toldBytes (now (marks .entry)) count) (now (bytes .entry)) ⌝ }
 {
-    let mut at: usize = 0;
-    for n in 0..blocks {
-        let byte = byte_told(marks, n);
-        if byte != 0 {
-            put_descriptor(bytes, at, n as u64, index_told(marks, n), byte - 1);
-            at += 8;
-        }
+    for i in 0..count {
+        put_descriptor(
+            bytes,
+            8 * i,
+            number_told(marks, i),
+            index_told(marks, i),
+            byte_told(marks, i),
+        );
     }
-    put_descriptor(bytes, at, 0xffff_ffff, 0, 0);
+    put_descriptor(bytes, 8 * count, 0xffff_ffff, 0, 0);
 }
 
-// How many bytes a list fills. The blocks that a domain holds are open or Closed.
-fn list_length(summary: Summary, listed: Listed) -> u64
+// How many blocks are listed. The blocks that a domain holds are open or Closed.
+fn listed_count(summary: Summary, listed: Listed) -> u64
     requires { ⌜ (summary .opened ≤ summary .held) × (summary .held ≤ 256) ⌝ }
-    ensures { λ r. ⌜ r ≡ lengthSeen summary listed ⌝ }
+    ensures { λ r. ⌜ (r ≡ countSeen summary listed) × (r ≤ 256) ⌝ }
 {
     let opened = summary.opened;
     match listed {
-        Listed::Open => 8 * (opened + 1),
-        Listed::Closed => 8 * (summary.held - opened + 1),
+        Listed::Open => opened,
+        Listed::Closed => summary.held - opened,
     }
 }
 
-// The domain's open or Closed blocks, a descriptor each, and the end mark. Both stand in ascending
-// number.
+// The domain's open or Closed blocks by rising serial, a descriptor each, and the end mark.
 pub fn list(
     summary: Summary,
     domain: u64,
@@ -74,9 +75,10 @@ pub fn list(
     requires { ⌜ length (now marks) ≡ markCount ⌝ }
     ensures { λ r. ⌜ ((t : Table) (store words : List ℕ) → Sees t domain summary → SeesList t domain listed summary (now (marks .entry)) → ServesCommand t (Listing domain listed) store words (now (bytes .entry)) (served (answering t r) store words (now (bytes .exit)))) ⌝ }
 {
-    if (bytes.len() as u64) < list_length(summary, listed) {
+    let count = listed_count(summary, listed);
+    if (bytes.len() as u64) < 8 * (count + 1) {
         return Answer::Refused(Refusal::Output);
     }
-    put_list(bytes, marks, summary.config.blocks as usize);
+    put_list(bytes, marks, count as usize);
     Answer::Done
 }

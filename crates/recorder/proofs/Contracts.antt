@@ -24,17 +24,17 @@ use Rattle.model.specs.declared.table.Table.{Table}
 use Rattle.recorder.specs.Samples.{freeing, isOutOfRange, isOverQuota, isRefusedWith, noSamples, numberOr, sampleCommand}
 use Rattle.recorder.specs.Steps.{Again, Appends, Given, Latest, Readable, ServesWords, again, at-once, given, refused}
 use Rattle.rules.proofs.Recorder.{OldestOf, oldest}
-use Rattle.rules.specs.Calls.{BytesDue, Call, _asking_, _for_, append, calling, callingFor, latest, lending, noBytes, profileOf}
+use Rattle.rules.specs.Calls.{Call, _asking_, _for_, append, calling, callingFor, latest, lending, noBytes, profileOf}
 use Rattle.rules.specs.Claims.{Likewise, Shaped}
 use Rattle.rules.specs.Drive.{Drive, domainAt, overwritten, size}
-use Rattle.rules.specs.Effects.{FillsIf, Served, Serves, accepted, effect, questions, step, verdict, wordsFilled}
+use Rattle.rules.specs.Effects.{Served, Serves, accepted, bytesFilled, effect, questions, step, verdict, wordsFilled}
 use Rattle.rules.specs.Questions.{exists, isCount, storeFits}
 use Rattle.rules.specs.Soundness.{sound}
 use Rattle.rules.specs.Recorder.{hasRecorderShape, latestQuestions, oldestClosed, sampleWrite}
 use Rattle.rules.proofs.Claims as claims
 use Rattle.rules.proofs.Drive.{overwritten-nothing}
 use Rattle.rules.proofs.Appending.{asked-first, no-further}
-use Rattle.rules.proofs.Effects.{accepted-drive, refused-unchanged}
+use Rattle.rules.proofs.Effects.{accepted-drive, fills-no-bytes, refused-unchanged}
 use Rattle.rules.proofs.Kept.OneBlock.{few-blocks}
 use Rattle.rules.proofs.Kept.Tested.{facts-of}
 use Rattle.rules.proofs.Noninterference.Requests.{before-no}
@@ -61,14 +61,10 @@ verdict-is v k words bytes r s = ap (λ (o : Outcome). o .number) (s .answers) �
 
 -- ---- One call that is served like another
 
--- A kind that fills no bytes.
-no-bytes : (b : Bool) (t : Table) (bytes : List ℕ) → FillsIf b noBytes t bytes → bytes ≡ []
-no-bytes true t bytes f = f
-no-bytes false t bytes f = f
-
-bytes-none : (b : Bool) (t : Table) → FillsIf b noBytes t []
-bytes-none true t = refl
-bytes-none false t = refl
+-- A kind that fills no bytes leaves none as they were.
+none-shown : (v : Drive) (k : Call) → profileOf (k .asks) .bytes ≡ noBytes → [] ≡ overwritten 0 (bytesFilled v k) []
+none-shown v k none-due =
+    sym (overwritten-nothing []) ∙ ap (λ (x : List ℕ). overwritten 0 x []) (sym (fills-no-bytes v k none-due))
 
 same-answer : (qs rs : List Question) (values : List ℕ) → firstNo qs ≡ firstNo rs → answered qs values ≡ answered rs values
 unfolding answered
@@ -83,20 +79,13 @@ module _ (v w : Drive) (k l : Call) (none-k : profileOf (k .asks) .bytes ≡ noB
   serves-like : (¬ (verdict w l ≡ 0) → w ≡ v) → Serves v k words [] r
   unfolding step wordsFilled
   serves-like refused-same =
-      let filled = s .fills-bytes in
-      let nothing : filled .0 ≡ [] =
-      no-bytes (accepted w l) (w .table) (filled .0) (subst (λ (due : BytesDue). FillsIf (accepted w l) due (w .table) (filled .0)) none-l (filled .1)) in
       record {
         answers =
             s .answers ∙ same-answer (questions w l) (questions v k) (effect w l .values) (sym (same .same-verdict))
             ∙ ap (λ (x : List ℕ). answered (questions v k) x) (ap (λ x. x .values) (sym (same .same-effect)));
         leaves = s .leaves ∙ drives;
         fills-words = s .fills-words ∙ filled-words;
-        fills-bytes = (
-          [],
-          subst (λ (due : BytesDue). FillsIf (accepted v k) due (v .table) []) (sym none-k) (bytes-none (accepted v k) (v .table)),
-          filled .2 ∙ ap (λ (x : List ℕ). overwritten 0 x []) nothing,
-        );
+        fills-bytes = s .fills-bytes ∙ ap (λ (x : List ℕ). overwritten 0 x []) (fills-no-bytes w l none-l ∙ sym (fills-no-bytes v k none-k));
       }
     where
       drives : step l w ≡ step k v
@@ -256,7 +245,7 @@ module _ (t : Table) (d sample : ℕ) (store words : List ℕ) (shape : Shaped t
           answers = rw off (told ∙ ap (λ (n : ℕ). refusal n) (sym same-no));
           leaves = rw off (ap₂ (λ (x : Table) (y : List ℕ). drive x y) (u .0) (u .1));
           fills-words = rw off (u .2 ∙ sym (overwritten-nothing words));
-          fills-bytes = ([], bytes-none (accepted v k) t, sym (overwritten-nothing []));
+          fills-bytes = none-shown v k refl;
         }
 
   -- The shape: the append is the write, or a Free and the write.
@@ -387,7 +376,7 @@ module _ (t : Table) (d : ℕ) (count : Adus) (store words : List ℕ) where
         answers = rw off (told ∙ ap (λ (n : ℕ). refusal n) (sym same));
         leaves = rw off (ap₂ (λ (x : Table) (y : List ℕ). drive x y) (u .0) (u .1));
         fills-words = rw off (u .2 ∙ sym (overwritten-nothing words));
-        fills-bytes = ([], bytes-none (accepted place read) t, sym (overwritten-nothing []));
+        fills-bytes = none-shown place read refl;
       }
   latest-served r store′ words′ (given first words₁ s e g stays) =
       let u = left-alone t d store words first store′ words₁ s in
@@ -404,5 +393,5 @@ module _ (t : Table) (d : ℕ) (count : Adus) (store words : List ℕ) where
         answers = g′ .answers ∙ rw (← later);
         leaves = ap₂ (λ (y : Table) (z : List ℕ). drive y z) (stays ∙ u .0) (u .1) ∙ by-test (accepted place read) (λ f. rw f) (λ f. rw f);
         fills-words = g′ .fills ∙ rw (← later);
-        fills-bytes = ([], bytes-none (accepted place read) t, sym (overwritten-nothing []));
+        fills-bytes = none-shown place read refl;
       }

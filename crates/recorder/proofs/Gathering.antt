@@ -9,14 +9,15 @@ use lib.ListN.{drop, getD, length, length-append, length-set, set, take}
 use lib.Seq.{append-snoc, drop-cons, getD-set-other, getD-set-same, getD-take, length-take-le, set-at}
 use Rattle.geometry.proofs.Laws.Shape.{by-test}
 use Rattle.model.specs.declared.block.Block.{Block}
-use Rattle.recorder.specs.Newest.{FewWritten, Gathers, Notes, keyOf, keysTo, recordAt, writtenTo}
+use Rattle.recorder.specs.Newest.{FewWritten, Gathers, Notes, heldKeys, keyOf, recordAt, writtenTo}
 use Rattle.recorder.specs.declared.newest.Gathered.{Gathered}
 use Rattle.rules.proofs.Counting.{by-eq, sum-same}
 use Rattle.rules.specs.Counting.{sumTo}
 use Rattle.rules.specs.Drive.{clearBlock, heldBy, overwritten}
+use Rattle.tables.specs.Keys.{keysTo}
 
 -- There are no more keys than blocks, ..
-pub few-keys : (bs : List Block) (d n : ℕ) → length (keysTo bs d n) ≤ n
+pub few-keys : (bs : List Block) (d n : ℕ) → length (heldKeys bs d n) ≤ n
 unfolding keysTo
 few-keys bs d zero = omega arith
 few-keys bs d (suc n) =
@@ -67,10 +68,10 @@ module _ (bs : List Block) (d : ℕ) (keys₀ written₀ : List ℕ) where
       where
         yes : held ≡ true → Gathers bs d (suc n) keys₀ written₀ r keys′ written′
         yes h =
-            let standing = keysTo bs d n in
+            let standing = heldKeys bs d n in
             let k = keyOf (recordAt bs n .serial) n in
             let w = recordAt bs n .written .0 in
-            let more : keysTo bs d (suc n) ≡ standing ++ (k ∷ []) = rw h in
+            let more : heldKeys bs d (suc n) ≡ standing ++ (k ∷ []) = rw h in
             let one-more : r .keys ≡ found .keys + 1 = rw h at (s .as-many) in
             let put : keys′ ≡ set keys (found .keys) k = rw h at (s .keys-are) in
             let put-written : written′ ≡ set written n w = rw h at (s .written-are) in
@@ -92,7 +93,7 @@ module _ (bs : List Block) (d : ℕ) (keys₀ written₀ : List ℕ) where
 
         no : held ≡ false → Gathers bs d (suc n) keys₀ written₀ r keys′ written′
         no h =
-            let same : keysTo bs d (suc n) ≡ keysTo bs d n = rw h (append-nil (keysTo bs d n)) in
+            let same : heldKeys bs d (suc n) ≡ heldKeys bs d n = rw h (append-nil (heldKeys bs d n)) in
             let as-before : r .keys ≡ found .keys + 0 = rw h at (s .as-many) in
             let unput : keys′ ≡ keys = rw h at (s .keys-are) in
             let unwritten : written′ ≡ written = rw h at (s .written-are) in
@@ -110,7 +111,7 @@ module _ (bs : List Block) (d : ℕ) (keys₀ written₀ : List ℕ) where
 
 -- ---- What is gathered of the first records is gathered of all
 
-keys-lent : (bs : List Block) (d m n : ℕ) → n ≤ m → keysTo (take m bs) d n ≡ keysTo bs d n
+keys-lent : (bs : List Block) (d m n : ℕ) → n ≤ m → heldKeys (take m bs) d n ≡ heldKeys bs d n
 unfolding keysTo
 keys-lent bs d m zero l = refl
 keys-lent bs d m (suc n) l =

@@ -19,25 +19,31 @@ use Rattle.model.specs.declared.answer.Answer.{Answer}
 use Rattle.model.specs.declared.answer.Answer.the-variants.{Done, Refused}
 use Rattle.model.specs.declared.answer.Refusal.the-variants as refusal
 use Rattle.model.specs.declared.table.Table.{Table}
-use Rattle.recorder.specs.Newest.{FewWritten, Fillable, FillsFrom, Gathers, Within, gatheredParts, keyFor, keyOf, keysTo, partOf, partsOf, rankedTo, writtenTo}
+use Rattle.recorder.specs.Newest.{FewWritten, Fillable, FillsFrom, Gathers, Within, gatheredParts, heldKeys, keyOf, partOf, partsOf, writtenTo}
 use Rattle.recorder.specs.Steps.{FillsLatest, Given, Gives, Readable, asked, no-room, out-of-range}
 use Rattle.recorder.specs.declared.newest.Gathered.{Gathered}
 use Rattle.recorder.proofs.Filling.{parts-append}
 use Rattle.recorder.proofs.Gathering.{few-keys}
-use Rattle.recorder.proofs.Ranking.{key-number, ranked}
 use Rattle.rules.specs.Claims.{Shaped}
-use Rattle.rules.specs.Drive.{Drive, blockAt, blockWith, clearBlock, domainAt, entriesOf, heldBy, overwritten, size}
+use Rattle.rules.specs.Drive.{Drive, blockAt, blockWith, bySerialTo, clearBlock, domainAt, entriesOf, heldBy, overwritten, size, toldOf}
 use Rattle.rules.specs.Questions.{isCount}
-use Rattle.rules.specs.Recorder.{hasRecorderShape, kept, keptTo, lastOf, writtenIn}
+use Rattle.rules.specs.Recorder.{hasRecorderShape, kept, lastOf, writtenIn}
 use Rattle.rules.proofs.Drive.{overwritten-nothing}
 use Rattle.rules.proofs.Kept.Facts.{Facts, written-most}
 use Rattle.rules.proofs.Kept.OneBlock.{few-blocks}
 use Rattle.rules.proofs.Kept.Tested.{facts-of}
 use Rattle.rules.proofs.Kept.Views.{view}
-use Rattle.rules.proofs.Noninterference.Samples.{WithSerial, kept-length, with-serial}
+use Rattle.rules.proofs.Noninterference.Samples.{kept-length}
+use Rattle.rules.proofs.Serials.{WithSerial, serial-found}
 use Rattle.rules.proofs.Writes.{Ready}
 use Rattle.sorting.specs.Order.{inOrder}
+use Rattle.tables.proofs.Ranking.{ranked}
+use Rattle.tables.specs.Keys.{keyIf}
 use Rattle.tables.specs.Serving.{drive}
+
+-- The number of a key's block.
+key-number : (serial n : ℕ) → n < 256 → keyOf serial n % 256 ≡ n
+key-number serial n l = omega (arith, l)
 
 -- The first of the second of two lists.
 getD-seam : (xs : List ℕ) (y : ℕ) (ys : List ℕ) → getD (xs ++ (y ∷ ys)) (length xs) 0 ≡ y
@@ -83,13 +89,20 @@ module _ (t : Table) (d : ℕ) (store : List ℕ) (x : Readable t d store) (shap
     abbrev last : ℕ
     last = domainAt t d .last
 
-    -- The keys in order.
-    pub sorted-keys : inOrder (take (found .keys) keys) ≡ rankedTo t d last
+    -- The keys in order are those of its blocks by rising serial.
+    abbrev key : ℕ → List ℕ
+    key n = keyIf (λ i. heldBy d (blockAt t i)) (λ i. keyOf (blockAt t i .serial) i) n
+
+    abbrev ranks : ℕ → List ℕ
+    ranks s = bySerialTo key t d s
+
+    pub sorted-keys : inOrder (take (found .keys) keys) ≡ ranks last
     unfolding overwritten
     sorted-keys =
         ap₂ (λ (k : ℕ) (l : List ℕ). inOrder (take k l)) (g .as-many) (g .keys-are)
-        ∙ ap (λ (l : List ℕ). inOrder l) (take-append-seam (keysTo (t .blocks) d (size t)) _)
-        ∙ ranked v d low facts
+        ∙ ap (λ (l : List ℕ). inOrder l) (take-append-seam (heldKeys (t .blocks) d (size t)) _)
+        ∙ ranked v d low facts (λ n. heldBy d (blockAt t n)) (λ n. keyOf (blockAt t n .serial) n) (λ serial. serial * 256)
+        (λ n l e. e) (λ n l e. (omega arith, omega (arith, l, few))) (λ serial. omega arith)
 
     take-take : (a b : ℕ) (l : List ℕ) → a ≤ b → take a (take b l) ≡ take a l
     take-take zero b l e = refl
@@ -98,59 +111,63 @@ module _ (t : Table) (d : ℕ) (store : List ℕ) (x : Readable t d store) (shap
     take-take (suc a) (suc b) (y ∷ l) e = ap (λ (r : List ℕ). y ∷ r) (take-take a b l (omega (arith, e)))
 
     -- What the block of a key has written.
-    one-part : (serial : ℕ) (y : Option ℕ) → WithSerial t d serial (size t) y → partsOf c store written (keyFor serial y) ≡ writtenIn v y
+    one-part : (serial : ℕ) (y : Option ℕ) → WithSerial t d serial (size t) y
+        → partsOf c store written (toldOf key y) ≡ toldOf (writtenIn v) y
     unfolding partsOf entriesOf stretchStart
     one-part serial none o = refl
     one-part serial (some n) o =
         let w = blockAt t n .written .0 in
-        let is = key-number serial n (omega (arith, o .0, few)) in
-        append-nil (partOf c store written (keyOf serial n))
+        let is = key-number (blockAt t n .serial) n (omega (arith, o .0, few)) in
+        rw (o .1)
+        (append-nil (partOf c store written (keyOf (blockAt t n .serial) n))
         ∙ ap (λ (k : ℕ). take (getD written k 0) (drop (k * c) store)) is
         ∙ ap (λ (k : ℕ). take k (drop (n * c) store)) (g .written-are n (o .0) (o .1))
-        ∙ sym (take-take w c (drop (n * c) store) (block-few n (o .0)))
+        ∙ sym (take-take w c (drop (n * c) store) (block-few n (o .0))))
 
-    parts-to : (s : ℕ) → partsOf c store written (rankedTo t d s) ≡ keptTo v d s
-    unfolding partsOf rankedTo keptTo
+    parts-to : (s : ℕ) → partsOf c store written (ranks s) ≡ bySerialTo (writtenIn v) t d s
+    unfolding partsOf bySerialTo
     parts-to zero = refl
     parts-to (suc s) =
-        parts-append c store written (rankedTo t d s) (keyFor (suc s) (blockWith t d (suc s)))
+        parts-append c store written (ranks s) (toldOf key (blockWith t d (suc s)))
         ∙ ap₂ (λ (a b : List ℕ). a ++ b) (parts-to s)
-        (one-part (suc s) (blockWith t d (suc s)) (with-serial t d (suc s) (size t)))
+        (one-part (suc s) (blockWith t d (suc s)) (serial-found t d (suc s)))
 
-    pub parts-kept : partsOf c store written (rankedTo t d last) ≡ kept v d
+    pub parts-kept : partsOf c store written (ranks last) ≡ kept v d
     parts-kept = parts-to last
 
     pub adus-kept : found .adus ≡ length (kept v d)
     adus-kept = g .adus ∙ sym kept-many
 
     -- They lie within the store.
-    keys-within : (s i : ℕ) → i < length (rankedTo t d s)
-        → let n = getD (rankedTo t d s) i 0 % 256 in (n < size t) × (heldBy d (blockAt t n) ≡ true)
-    unfolding rankedTo
+    keys-within : (s i : ℕ) → i < length (ranks s)
+        → let n = getD (ranks s) i 0 % 256 in (n < size t) × (heldBy d (blockAt t n) ≡ true)
+    unfolding bySerialTo
     keys-within zero i l = absurd (omega (arith, l))
     keys-within (suc s) i l =
-        by-test (ltb i (length (rankedTo t d s)))
+        by-test (ltb i (length (ranks s)))
         (λ e.
-        let below = ltb-true i (length (rankedTo t d s)) e in
+        let below = ltb-true i (length (ranks s)) e in
         subst (λ (k : ℕ). (k % 256 < size t) × (heldBy d (blockAt t (k % 256)) ≡ true))
-        (sym (List·getD-append (rankedTo t d s) (keyFor (suc s) (blockWith t d (suc s))) 0 i below)) (keys-within s i below))
-        (λ e. newest (blockWith t d (suc s)) (with-serial t d (suc s) (size t)) (ltb-false i (length (rankedTo t d s)) e) l)
+        (sym (List·getD-append (ranks s) (toldOf key (blockWith t d (suc s))) 0 i below)) (keys-within s i below))
+        (λ e. newest (blockWith t d (suc s)) (serial-found t d (suc s)) (ltb-false i (length (ranks s)) e) l)
       where
-        newest : (y : Option ℕ) → WithSerial t d (suc s) (size t) y → length (rankedTo t d s) ≤ i
-            → i < length (rankedTo t d s ++ keyFor (suc s) y)
-            → let n = getD (rankedTo t d s ++ keyFor (suc s) y) i 0 % 256 in (n < size t) × (heldBy d (blockAt t n) ≡ true)
-        newest none o behind inside = absurd (omega (arith, behind, inside, length-append (rankedTo t d s) []))
-        newest (some m) o behind inside =
-            let at : i ≡ length (rankedTo t d s) = omega (arith, behind, inside, length-append (rankedTo t d s) (keyOf (suc s) m ∷ [])) in
-            let is : getD (rankedTo t d s ++ (keyOf (suc s) m ∷ [])) i 0 % 256 ≡ m =
-            ap (λ (k : ℕ). getD (rankedTo t d s ++ (keyOf (suc s) m ∷ [])) k 0 % 256) at
-            ∙ ap (λ (k : ℕ). k % 256) (getD-seam (rankedTo t d s) (keyOf (suc s) m) [])
-            ∙ key-number (suc s) m (omega (arith, o .0, few)) in
-            (omega (arith, is, o .0), subst (λ (k : ℕ). heldBy d (blockAt t k) ≡ true) (sym is) (o .1))
+        newest : (y : Option ℕ) → WithSerial t d (suc s) (size t) y → length (ranks s) ≤ i
+            → i < length (ranks s ++ toldOf key y)
+            → let n = getD (ranks s ++ toldOf key y) i 0 % 256 in (n < size t) × (heldBy d (blockAt t n) ≡ true)
+        newest none o behind = λ inside. absurd (omega (arith, behind, inside, length-append (ranks s) []))
+        newest (some m) o behind =
+            let k = keyOf (blockAt t m .serial) m in
+            rw (o .1) (λ inside.
+            let at : i ≡ length (ranks s) = omega (arith, behind, inside, length-append (ranks s) (k ∷ [])) in
+            let is : getD (ranks s ++ (k ∷ [])) i 0 % 256 ≡ m =
+            ap (λ (j : ℕ). getD (ranks s ++ (k ∷ [])) j 0 % 256) at
+            ∙ ap (λ (j : ℕ). j % 256) (getD-seam (ranks s) k [])
+            ∙ key-number (blockAt t m .serial) m (omega (arith, o .0, few)) in
+            (omega (arith, is, o .0), subst (λ (j : ℕ). heldBy d (blockAt t j) ≡ true) (sym is) (o .1)))
 
-    pub all-within : Within c store written (rankedTo t d last)
+    pub all-within : Within c store written (ranks last)
     all-within i l =
-        let n = getD (rankedTo t d last) i 0 % 256 in
+        let n = getD (ranks last) i 0 % 256 in
         let h = keys-within last i l in
         omega (arith, block-within n (h .0), g .written-are n (h .0) (h .1))
 

@@ -1,7 +1,6 @@
 pub mod Rows
 pub mod Filling
 pub mod Gathering
-pub mod Ranking
 pub mod Shapes
 pub mod Keeping
 pub mod Oldest

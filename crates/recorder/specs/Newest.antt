@@ -1,19 +1,18 @@
 -- The end of what a domain keeps, found by rows of plain numbers: a key for each of its blocks, and how many ADUs of each block are
 -- written.
-use Prim.Native.Nat.{ℕ, zero, suc, _+_, _-_, _*_, _%_, _≤_, _<_, min}
+use Prim.Native.Nat.{ℕ, _+_, _-_, _*_, _%_, _≤_, _<_, min}
 use mathlib.Core.Bool.{true, cond}
 use mathlib.Core.List.{List, [], _∷_, _++_}
-use mathlib.Core.Option.{Option, none, some}
 use mathlib.Core.Path.{_≡_}
 use lib.ListN.{drop, getD, length, set, take}
 use Rattle.geometry.specs.Shape.{adusPerBlock, withinLimits}
 use Rattle.geometry.specs.declared.shape.Adus.{Adus}
 use Rattle.geometry.specs.declared.shape.Config.{Config}
 use Rattle.model.specs.declared.block.Block.{Block}
-use Rattle.model.specs.declared.table.Table.{Table}
 use Rattle.rules.specs.Counting.{sumTo}
-use Rattle.rules.specs.Drive.{blockWith, clearBlock, heldBy, overwritten}
+use Rattle.rules.specs.Drive.{clearBlock, heldBy, overwritten}
 use Rattle.sorting.specs.Order.{inOrder}
+use Rattle.tables.specs.Keys.{keysTo}
 use Rattle.recorder.specs.declared.newest.Gathered.{Gathered}
 
 -- A block's serial and number in one number: keys are ordered as the serials are.
@@ -24,19 +23,9 @@ keyOf serial n = serial * 256 + n
 abbrev pub recordAt : List Block → ℕ → Block
 recordAt bs n = getD bs n clearBlock
 
--- The keys of the domain's blocks, by number, ..
-unfoldable pub keysTo : List Block → ℕ → ℕ → List ℕ
-keysTo bs d zero = []
-keysTo bs d (suc n) = keysTo bs d n ++ cond (heldBy d (recordAt bs n)) (keyOf (recordAt bs n .serial) n ∷ []) []
-
--- .. and by serial.
-abbrev pub keyFor : ℕ → Option ℕ → List ℕ
-keyFor serial none = []
-keyFor serial (some n) = keyOf serial n ∷ []
-
-unfoldable pub rankedTo : Table → ℕ → ℕ → List ℕ
-rankedTo t d zero = []
-rankedTo t d (suc serial) = rankedTo t d serial ++ keyFor (suc serial) (blockWith t d (suc serial))
+-- The keys of the domain's blocks below n, by number.
+abbrev pub heldKeys : List Block → ℕ → ℕ → List ℕ
+heldKeys bs d n = keysTo (λ i. heldBy d (recordAt bs i)) (λ i. keyOf (recordAt bs i .serial) i) n
 
 -- How many ADUs of the domain's blocks below n are written.
 abbrev pub writtenTo : List Block → ℕ → ℕ → ℕ
@@ -55,9 +44,9 @@ FewWritten bs = (n : ℕ) → n < length bs → recordAt bs n .written .0 ≤ 10
 
 -- What is gathered of the first n blocks.
 pub record Gathers (bs : List Block) (d n : ℕ) (keys written : List ℕ) (r : Gathered) (keys′ written′ : List ℕ) : Type 0 where
-  pub as-many : r .keys ≡ length (keysTo bs d n)
+  pub as-many : r .keys ≡ length (heldKeys bs d n)
   pub adus : r .adus ≡ writtenTo bs d n
-  pub keys-are : keys′ ≡ overwritten 0 (keysTo bs d n) keys
+  pub keys-are : keys′ ≡ overwritten 0 (heldKeys bs d n) keys
   pub as-long : length keys′ ≡ length keys
   pub same-length : length written′ ≡ length written
   pub written-are : (i : ℕ) → i < n → heldBy d (recordAt bs i) ≡ true → getD written′ i 0 ≡ recordAt bs i .written .0

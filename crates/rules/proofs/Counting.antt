@@ -3,15 +3,13 @@ use Prim.Native.Nat.{ℕ, zero, suc, _+_, _*_, _≤_, _<_}
 use mathlib.Core.Bool.{Bool, true, false, true≢false, _&&_, _||_, cond}
 use mathlib.Core.List.{List, [], _∷_, _++_}
 use mathlib.Core.Path.{_≡_, refl, sym, ap₂, _∙_}
-use native.Mathlib.Nat.{add-mul}
 use native.Mathlib.Numerals.{add-one}
 use native.Mathlib.Omega.{arith}
-use lib.Dec.{eqb, ltb}
+use lib.Dec.{eqb}
 use lib.ListN.{getD, length, length-append, List·getD-append}
-use borrow.Author.Tests.{eq-eqb, eqb-false, eqb-true, le-ltb, lt-ltb, ltb-false, ltb-true, ne-eqb}
+use borrow.Author.Tests.{eq-eqb, eqb-false, eqb-true, ne-eqb}
 use Rattle.geometry.proofs.Laws.Shape.{both, by-test}
-use Rattle.rules.specs.Counting.{allTo, countTo, numbersTo, rowTo, sumTo}
-use Rattle.rules.specs.LogPages.{timesIn}
+use Rattle.rules.specs.Counting.{allTo, countTo, rowTo, sumTo}
 
 -- Cases of an equation of numbers.
 pub by-eq : {P : Type 0} (k n : ℕ) → (k ≡ n → P) → (¬ (k ≡ n) → P) → P
@@ -110,15 +108,6 @@ unfolding sumTo
 sum-least zero f h = omega arith
 sum-least (suc n) f h = omega (arith, sum-least n f (λ i l. h i (omega arith)), h n (omega arith))
 
--- One number below n is one.
-count-one : (n m : ℕ) → m < n → countTo (eqb m) n ≡ 1
-unfolding sumTo
-count-one zero m l = absurd (omega arith)
-count-one (suc n) m l =
-    by-eq m n
-    (λ e. rw (eq-eqb m n e) (omega (arith, sum-zero n (λ i. cond (eqb m i) 1 0) (λ i k. rw (ne-eqb m i (λ q. omega arith))))))
-    (λ e. rw (ne-eqb m n e) (omega (arith, count-one n m (omega arith))))
-
 -- Over no numbers, and over one number more.
 pub sum-none : (f : ℕ → ℕ) → sumTo f 0 ≡ 0
 unfolding sumTo
@@ -192,95 +181,3 @@ get-row f (suc n) i l =
     last [] x (suc k) e = absurd (omega (arith, e))
     last (y ∷ xs) x zero e = absurd (omega (arith, e))
     last (y ∷ xs) x (suc k) e = last xs x k (omega (arith, e))
-
-pub length-numbers : (p : ℕ → Bool) (n : ℕ) → length (numbersTo p n) ≡ countTo p n
-unfolding numbersTo sumTo
-length-numbers p zero = refl
-length-numbers p (suc n) =
-    rw (length-append, length-numbers p n) (by-test (p n) (λ e. rw e) (λ e. rw e))
-
--- ---- How often a number stands in a list
-
-times-append : (n : ℕ) (ms ks : List ℕ) → timesIn n (ms ++ ks) ≡ timesIn n ms + timesIn n ks
-unfolding timesIn
-times-append n [] ks = omega arith
-times-append n (m ∷ ms) ks = omega (arith, times-append n ms ks)
-
--- One entry is one, and is no other.
-times-one : (n m : ℕ) → timesIn m (n ∷ []) ≡ cond (eqb n m) 1 0
-unfolding timesIn
-times-one n m = omega arith
-
-times-none : (m : ℕ) → timesIn m [] ≡ 0
-unfolding timesIn
-times-none m = refl
-
-times-if : (b : Bool) (n m : ℕ) → timesIn m (cond b (n ∷ []) []) ≡ cond (eqb n m && b) 1 0
-times-if true n m = by-test (eqb n m) (λ e. rw (times-one n m, e)) (λ e. rw (times-one n m, e))
-times-if false n m = by-test (eqb n m) (λ e. rw (times-none m, e)) (λ e. rw (times-none m, e))
-
-pub numbers-once : (p : ℕ → Bool) (n m : ℕ) → timesIn m (numbersTo p n) ≡ cond (ltb m n && p m) 1 0
-unfolding numbersTo
-numbers-once p zero m = rw (le-ltb m 0 (omega arith)) (times-none m)
-numbers-once p (suc n) m =
-    rw (times-append, numbers-once p n m, times-if)
-    (by-eq n m
-    (λ e. rw (← e, le-ltb n n (omega arith), lt-ltb n (suc n) (omega arith), eq-eqb n n refl) (omega arith))
-    (λ e. rw (ne-eqb n m e)
-    (by-test (ltb m n)
-    (λ q. rw (q, lt-ltb m (suc n) (omega (arith, ltb-true m n q))) (omega arith))
-    (λ q. rw (q, le-ltb m (suc n) (beyond e (ltb-false m n q)))))))
-  where
-    beyond : ¬ (n ≡ m) → n ≤ m → suc n ≤ m
-    beyond e l = omega (arith)
-
--- The first entry of a list that has nothing from n on is below n, and the rest has nothing from n on.
-pub first-below : (n m : ℕ) (ms : List ℕ) → ((i : ℕ) → n ≤ i → timesIn i (m ∷ ms) ≡ 0) → m < n
-unfolding timesIn
-first-below n m ms h = by-test (ltb m n) (λ e. ltb-true m n e) (λ e. absurd (stands (h m (ltb-false m n e))))
-  where
-    stands : cond (eqb m m) 1 0 + timesIn m ms ≡ 0 → ⊥
-    stands e = omega (arith, rw (eq-eqb m m refl) at e)
-
-pub rest-below : (n m : ℕ) (ms : List ℕ) → ((i : ℕ) → n ≤ i → timesIn i (m ∷ ms) ≡ 0) → (i : ℕ) → n ≤ i → timesIn i ms ≡ 0
-unfolding timesIn
-rest-below n m ms h i l = omega (arith, h i l)
-
--- A list that has nothing from n on has as many entries as the numbers below n stand in it.
-pub length-times : (n : ℕ) (ms : List ℕ) → ((i : ℕ) → n ≤ i → timesIn i ms ≡ 0) → length ms ≡ sumTo (λ i. timesIn i ms) n
-unfolding timesIn
-length-times n [] h = sym (sum-zero n (λ i. 0) (λ i l. refl))
-length-times n (m ∷ ms) h =
-    omega (
-      arith,
-      length-times n ms (rest-below n m ms h),
-      sum-add n (λ i. cond (eqb m i) 1 0) (λ i. timesIn i ms),
-      count-one n m (first-below n m ms h),
-    )
-
--- The sum over the entries of a list.
-unfoldable pub sumOver : (ℕ → ℕ) → List ℕ → ℕ
-sumOver f [] = 0
-sumOver f (n ∷ ns) = f n + sumOver f ns
-
--- The sum with one term left of it.
-sum-one : (n m : ℕ) (f : ℕ → ℕ) → m < n → sumTo (λ i. cond (eqb m i) 1 0 * f i) n ≡ f m
-sum-one n m f l =
-    let h = sum-at n (λ i. cond (eqb m i) 1 0 * f i) (λ i. 0) m l
-    (λ i k other. rw (ne-eqb m i (λ e. other (sym e))) (omega arith)) in
-    omega (arith, rw (eq-eqb m m refl) at h, sum-zero n (λ i. 0) (λ i k. refl))
-
--- The sum over a list that has nothing from n on, by how often each number below n stands in it.
-pub sum-over : (n : ℕ) (f : ℕ → ℕ) (ms : List ℕ) → ((i : ℕ) → n ≤ i → timesIn i ms ≡ 0)
-    → sumOver f ms ≡ sumTo (λ i. timesIn i ms * f i) n
-unfolding timesIn sumOver
-sum-over n f [] h = sym (sum-zero n (λ i. 0 * f i) (λ i l. omega arith))
-sum-over n f (m ∷ ms) h =
-    omega (
-      arith,
-      sum-over n f ms (rest-below n m ms h),
-      sum-one n m f (first-below n m ms h),
-      sum-add n (λ i. cond (eqb m i) 1 0 * f i) (λ i. timesIn i ms * f i),
-      sum-same n (λ i. (cond (eqb m i) 1 0 + timesIn i ms) * f i) (λ i. cond (eqb m i) 1 0 * f i + timesIn i ms * f i)
-          (λ i l. add-mul (cond (eqb m i) 1 0) (timesIn i ms) (f i)),
-    )

@@ -1,6 +1,6 @@
 -- A refusal leaves everything as it was, whatever the command; and every call has an answer.
 use Prim.Native.Nat.{ℕ, zero, suc, _+_, _-_, _≤_}
-use mathlib.Core.Bool.{Bool, true, false}
+use mathlib.Core.Bool.{false}
 use mathlib.Core.List.{List, []}
 use mathlib.Core.Option.{Option, none, some}
 use mathlib.Core.Path.{_≡_, refl, sym, ap, _∙_}
@@ -8,7 +8,7 @@ use native.Mathlib.Omega.{arith}
 use lib.ListN.{drop, length, length-append, length-drop, length-take, take, take-append-drop}
 use borrow.Author.Tests.{eqb-true, leb-true, ne-eqb}
 use Rattle.geometry.proofs.Laws.Questions.{answered-number}
-use Rattle.geometry.proofs.Laws.Shape.{by-test}
+use Rattle.geometry.proofs.Laws.Shape.{by-test, is-between}
 use Rattle.geometry.specs.Address.{fieldsOf}
 use Rattle.geometry.specs.Questions.{answered}
 use Rattle.geometry.specs.Shape.{stretchStart}
@@ -16,36 +16,32 @@ use Rattle.model.specs.declared.block.Way.the-variants.{Placement}
 use Rattle.model.specs.declared.command.Command.{Command}
 use Rattle.model.specs.declared.command.Command.the-variants.{ChangeCapacity, Close, Create, Delete, Erase, Free, List as Listing, Page, Pulse, Read}
 use Rattle.model.specs.declared.command.Command.the-variants.{WriteByBlock, WriteByPlacement}
-use Rattle.model.specs.declared.command.Listed.the-variants as listed
-use Rattle.model.specs.declared.table.Table.{Table}
 use Rattle.rules.specs.Blocks.{chosenBlock, erasedBlock, newBlocks, openedFor, room, userAddress, userAddresses, writtenByPlacement, writtenFirst, writtenInto, writtenNext, writtenOnwards}
-use Rattle.rules.specs.Calls.{Asked, BytesDue, Call, _asking_, _for_, append, command, latest, listBytes, noBytes, pageBytes, profile, profileOf}
+use Rattle.rules.specs.Calls.{Asked, Call, _asking_, _for_, append, command, latest, noBytes, profile, profileOf}
 use Rattle.rules.specs.Claims.{Unchanged}
-use Rattle.rules.specs.Counting.{numbersTo}
-use Rattle.rules.specs.Drive.{Drive, blockAt, newCapacity, openBlock, openOf, overwritten, size}
-use Rattle.rules.specs.Effects.{BytesFilled, Fills, FillsIf, Served, Serves, accepted, answerTo, byteCount, effect, erasing, questions, step, verdict, wordsFilled}
-use Rattle.rules.specs.LogPages.{closedList, listLength, listOf, openMark, page}
+use Rattle.rules.specs.Drive.{Drive, blockAt, newCapacity, openBlock, overwritten}
+use Rattle.rules.specs.Effects.{Served, Serves, accepted, answerTo, byteCount, bytesFilled, dueBytes, effect, erasing, questions, step, verdict, wordsFilled}
+use Rattle.rules.specs.LogPages.{listLength}
 use Rattle.rules.specs.Recorder.{kept, lastOf, afterFreeing}
-use Rattle.rules.proofs.Counting.{length-row, numbers-once}
+use Rattle.rules.proofs.Counting.{length-row}
 use Rattle.rules.proofs.Drive.{overwritten-nothing}
-use Rattle.rules.proofs.LogPages.{closed-list-length, open-list-length, page-length}
+use Rattle.rules.proofs.Kept.Tested.{facts-of}
+use Rattle.rules.proofs.LogPages.{list-length, page-length}
 use Rattle.rules.proofs.Questions.{answered-yes}
 
 pub refused-unchanged : (v : Drive) (k : Call) (words bytes : List ℕ) (r : Served)
     → Serves v k words bytes r
     → ¬ (r .answer .number ≡ 0)
     → Unchanged v words bytes r
-unfolding step wordsFilled answered
+unfolding step wordsFilled bytesFilled answered
 refused-unchanged v k words bytes r s not-0 =
     let number : r .answer .number ≡ verdict v k = rw (s .answers) (answered-number (questions v k) (effect v k .values)) in
     let refused : accepted v k ≡ false = ne-eqb (verdict v k) 0 (λ e. not-0 (number ∙ e)) in
-    let filled = s .fills-bytes in
-    let none : filled .0 ≡ [] = rw refused at (filled .1) in
     record {
       no-values = rw (s .answers, refused);
       same-drive = rw (s .leaves, refused);
       same-words = rw (s .fills-words, refused) (overwritten-nothing words);
-      same-bytes = rw (filled .2, none) (overwritten-nothing bytes);
+      same-bytes = rw (s .fills-bytes, refused) (overwritten-nothing bytes);
     }
 
 -- An accepted command leaves its effect.
@@ -53,30 +49,26 @@ pub accepted-drive : (v : Drive) (k : Call) → verdict v k ≡ 0 → step k v �
 unfolding step
 accepted-drive v k e = rw e
 
--- Some bytes are such as are filled: for the open list, those in ascending order.
-fill : (due : BytesDue) (t : Table) → (bytes : List ℕ) × Fills due t bytes
-fill noBytes t = ([], refl)
-fill (pageBytes n) t = (page (t .config) n (blockAt t n), refl)
-fill (listBytes d listed.Closed) t = (closedList t d, refl)
-fill (listBytes d listed.Open) t =
-    let order = numbersTo (λ n. openOf d (blockAt t n)) (size t) in
-    (listOf t openMark order, record { order = order; each-once = numbers-once (λ n. openOf d (blockAt t n)) (size t); descriptors = refl })
-
-pub fill-if : (b : Bool) (due : BytesDue) (t : Table) → (bytes : List ℕ) × FillsIf b due t bytes
-fill-if true due t = fill due t
-fill-if false due t = ([], refl)
-
 pub always-answered : (v : Drive) (k : Call) (words bytes : List ℕ) → (r : Served) × Serves v k words bytes r
-always-answered v k words bytes =
-    let filled = fill-if (accepted v k) (profileOf (k .asks) .bytes) (v .table) in (
-      record {
-        answer = answerTo v k;
-        drive = step k v;
-        words = overwritten 0 (wordsFilled v k) words;
-        bytes = overwritten 0 (filled .0) bytes;
-      },
-      record { answers = refl; leaves = refl; fills-words = refl; fills-bytes = (filled .0, filled .1, refl) },
-    )
+always-answered v k words bytes = (
+  record {
+    answer = answerTo v k;
+    drive = step k v;
+    words = overwritten 0 (wordsFilled v k) words;
+    bytes = overwritten 0 (bytesFilled v k) bytes;
+  },
+  record { answers = refl; leaves = refl; fills-words = refl; fills-bytes = refl },
+)
+
+-- And nothing else.
+pub handed-back-once : (v : Drive) (k : Call) (words bytes : List ℕ) (r s : Served)
+    → Serves v k words bytes r → Serves v k words bytes s → r ≡ s
+handed-back-once v k words bytes r s x y =
+    let answers = x .answers ∙ sym (y .answers) in
+    let drives = x .leaves ∙ sym (y .leaves) in
+    let filled = x .fills-words ∙ sym (y .fills-words) in
+    let shown = x .fills-bytes ∙ sym (y .fills-bytes) in
+    λ i. record { answer = answers i; drive = drives i; words = filled i; bytes = shown i }
 
 -- ---- What is filled fits what is lent.
 
@@ -190,12 +182,31 @@ words-fit v k =
     (λ e. rw e (words-for v k (k .asks) (eqb-true (verdict v k) 0 e)))
     (λ e. rw e (omega arith))
 
+-- A kind of which no bytes are due fills none, accepted or not.
+pub fills-no-bytes : (v : Drive) (k : Call) → profileOf (k .asks) .bytes ≡ noBytes → bytesFilled v k ≡ []
+unfolding bytesFilled
+fills-no-bytes v k none-due = by-test (accepted v k) (λ e. rw (e, none-due)) (λ e. rw e)
+
 -- As many bytes are filled as are due, ..
-pub bytes-counted : (t : Table) (due : BytesDue) (bytes : List ℕ) → Fills due t bytes → length bytes ≡ byteCount t due
-bytes-counted t noBytes bytes f = ap length f
-bytes-counted t (pageBytes n) bytes f = ap length f ∙ page-length (t .config) n (blockAt t n)
-bytes-counted t (listBytes d listed.Closed) bytes f = ap length f ∙ closed-list-length t d
-bytes-counted t (listBytes d listed.Open) bytes f = open-list-length t d bytes f
+pub bytes-counted : (v : Drive) (k : Call) (x : Asked) → verdict v (k for x) ≡ 0
+    → length (dueBytes (v .table) (profileOf x .bytes)) ≡ byteCount (v .table) (profileOf x .bytes)
+unfolding questions
+bytes-counted v k (command (Create d guarantee quota placements limit)) e = refl
+bytes-counted v k (command (ChangeCapacity d guarantee quota)) e = refl
+bytes-counted v k (command (Delete d)) e = refl
+bytes-counted v k (command (Erase d n)) e = refl
+bytes-counted v k (command (Close d n)) e = refl
+bytes-counted v k (command (Free d n)) e = refl
+bytes-counted v k (command (WriteByPlacement d p start count)) e = refl
+bytes-counted v k (command (WriteByBlock d n start count)) e = refl
+bytes-counted v k (command (Read d address count expected)) e = refl
+bytes-counted v k (command (Page d n)) e = page-length (v .table .config) n (blockAt (v .table) n)
+bytes-counted v k (command (Listing d which)) e =
+    let c = Listing d which in
+    list-length v d (is-between 1 16 d (answered-yes v (k asking c) 4 e) .least) (facts-of v (answered-yes v (k asking c) 2 e)) which
+bytes-counted v k (command (Pulse seconds)) e = refl
+bytes-counted v k (append d sample) e = refl
+bytes-counted v k (latest d count) e = refl
 
 -- .. and question 7 asks for so many.
 bytes-asked : (v : Drive) (k : Call) (c : Command) → verdict v (k asking c) ≡ 0 → byteCount (v .table) (profile c .bytes) ≤ k .lent .bytes
@@ -220,11 +231,11 @@ bytes-asked-for v k (command c) e = bytes-asked v k c e
 bytes-asked-for v k (append d sample) e = omega arith
 bytes-asked-for v k (latest d count) e = omega arith
 
-bytes-if : (b : Bool) (v : Drive) (k : Call) (bytes : List ℕ) → (b ≡ true → verdict v k ≡ 0)
-    → FillsIf b (profileOf (k .asks) .bytes) (v .table) bytes → length bytes ≤ k .lent .bytes
-bytes-if true v k bytes h f =
-    omega (arith, bytes-counted (v .table) (profileOf (k .asks) .bytes) bytes f, bytes-asked-for v k (k .asks) (h refl))
-bytes-if false v k bytes h f = rw f (omega arith)
-
-pub bytes-fit : (v : Drive) (k : Call) (bytes : List ℕ) → BytesFilled v k bytes → length bytes ≤ k .lent .bytes
-bytes-fit v k bytes f = bytes-if (accepted v k) v k bytes (λ e. eqb-true (verdict v k) 0 e) f
+pub bytes-fit : (v : Drive) (k : Call) → length (bytesFilled v k) ≤ k .lent .bytes
+unfolding bytesFilled
+bytes-fit v k =
+    by-test (accepted v k)
+    (λ e.
+    let yes = eqb-true (verdict v k) 0 e in
+    rw e (omega (arith, bytes-counted v k (k .asks) yes, bytes-asked-for v k (k .asks) yes)))
+    (λ e. rw e (omega arith))

@@ -1,15 +1,18 @@
 -- The example is as it says, and every list of calls has replies.
 use mathlib.Core.Bool.{true}
-use mathlib.Core.List.{List, [], _∷_}
+use mathlib.Core.List.{List, [], _∷_, _++_}
 use mathlib.Core.Path.{_≡_, refl, ap}
-use Rattle.rules.specs.Calls.{Call, profileOf}
+use Rattle.rules.specs.Calls.{Call}
 use Rattle.rules.specs.Drive.{Drive}
-use Rattle.rules.specs.Effects.{accepted, answerTo, step, wordsFilled}
-use Rattle.rules.specs.Example.{NotEmpty, blocksOf, busy, busyHalf, busyNumbers, numbersTold, quiet, quietHalf, quietNumbers, sameInputs, sevens, zeros}
+use Rattle.rules.specs.Effects.{answerTo, bytesFilled, step, wordsFilled}
+use Rattle.model.specs.declared.command.Command.the-variants.{Pulse}
+use Rattle.model.specs.declared.command.Listed.the-variants as listed
+use Rattle.rules.specs.Example.{NotEmpty, blocksOf, busy, busyHalf, busyNumbers, looks, numbersTold, quiet, quietHalf, quietNumbers, sameInputs, sevens, zeros}
 use Rattle.rules.specs.Noninterference.{Exchange, Replied, calls, fullyReserved, inputs}
 use Rattle.rules.specs.Observation.{Reply, requestOf}
+use Rattle.rules.specs.LogPages.{listedBlocks}
+use Rattle.rules.specs.ProvedTable.{call}
 use Rattle.rules.specs.Runs.{answers, run}
-use Rattle.rules.proofs.Effects.{fill-if}
 use Rattle.rules.proofs.Machine.{machine}
 
 -- ---- The two lists
@@ -38,6 +41,14 @@ busy-halfway : blocksOf (run busyHalf sevens) ≡ (1, 3) ∷ (5, 1) ∷ (7, 2) �
 unfolding machine
 busy-halfway = refl
 
+quiet-listed : listedBlocks (run (quietHalf ++ looks 0 1 7 ++ (call (Pulse 1) ∷ [])) zeros .table) 1 listed.Closed ≡ 0 ∷ 1 ∷ 2 ∷ []
+unfolding machine
+quiet-listed = refl
+
+busy-listed : listedBlocks (run (busyHalf ++ looks 5 7 2 ++ (call (Pulse 1) ∷ [])) sevens .table) 1 listed.Closed ≡ 5 ∷ 7 ∷ 1 ∷ []
+unfolding machine
+busy-listed = refl
+
 quiet-end : blocksOf (run quiet zeros) ≡ (0, 1) ∷ (1, 4) ∷ (3, 5) ∷ []
 unfolding machine
 quiet-end = refl
@@ -62,6 +73,8 @@ not-empty = record {
   busy-inputs = busy-inputs;
   quiet-halfway = quiet-halfway;
   busy-halfway = busy-halfway;
+  quiet-listed = quiet-listed;
+  busy-listed = busy-listed;
   quiet-end = quiet-end;
   busy-end = busy-end;
   quiet-numbers = quiet-numbers;
@@ -75,9 +88,8 @@ unfolding Replied
 exchanged [] v = ([], refl, tt)
 exchanged (k ∷ ks) v =
     let rest = exchanged ks (step k v) in
-    let filled = fill-if (accepted v k) (profileOf (k .asks) .bytes) (v .table) in
-    let reply : Reply = record { answer = answerTo v k; words = wordsFilled v k; bytes = filled .0 } in (
+    let reply : Reply = record { answer = answerTo v k; words = wordsFilled v k; bytes = bytesFilled v k } in (
       record { call = k; reply = reply } ∷ rest .0,
       ap (λ (ls : List Call). k ∷ ls) (rest .1),
-      (record { answers = refl; fills-words = refl; fills-bytes = filled .1 }, rest .2),
+      (record { answers = refl; fills-words = refl; fills-bytes = refl }, rest .2),
     )

@@ -6,6 +6,8 @@ use mathlib.Core.List.{List, [], _∷_}
 use mathlib.Core.Option.{none, some}
 use mathlib.Core.Path.{_≡_, subst}
 use lib.ListN.{getD, length}
+use Rattle.geometry.proofs.Laws.Shape.{is-between}
+use Rattle.geometry.specs.Address.{isDomainId}
 use Rattle.geometry.specs.Questions.{refusal, success}
 use Rattle.geometry.specs.Shape.{planes, withinLimits}
 use Rattle.geometry.specs.declared.address.FlashAddress.{FlashAddress}
@@ -16,21 +18,22 @@ use Rattle.model.proofs.Laws.{old-not-rewound}
 use Rattle.model.specs.Blocks.{countedDown, hasNewSerial}
 use Rattle.model.specs.declared.block.Block.{Block}
 use Rattle.model.specs.declared.command.Command.the-variants.{Delete, Erase, Pulse, Read, WriteByBlock, WriteByPlacement}
-use Rattle.model.specs.declared.command.Listed.the-variants as listed
+use Rattle.model.specs.declared.command.Listed.{Listed}
 use Rattle.model.specs.declared.table.Table.{Table}
 use Rattle.rules.specs.Blocks.{allOnes, chosenBlock, stored, userAddress, userAddresses}
 use Rattle.rules.specs.Calls.{Call, _asking_, ownDomain}
-use Rattle.rules.specs.Claims.{Chosen, ClosedList, Found, Gone, Layout, Reached, Unchanged, rising}
+use Rattle.rules.specs.Claims.{Chosen, Found, Gone, Layout, ListsInOrder, Reached, Unchanged, rising}
 use Rattle.rules.specs.Domains.{changedDomain}
 use Rattle.rules.specs.Drive.{Drive, blockAt, capacity, domainAt, heldCount, isFree, isOpen, size}
-use Rattle.rules.specs.Effects.{BytesFilled, Served, Serves, answerTo, questions, step, verdict, wordsFilled}
-use Rattle.rules.specs.LogPages.{OpenList, closedList, listLength, page, pageFields}
+use Rattle.rules.specs.Effects.{Served, Serves, answerTo, bytesFilled, questions, step, verdict, wordsFilled}
+use Rattle.rules.specs.LogPages.{list, listLength, listedBlocks, page, pageFields}
 use Rattle.rules.specs.Soundness.{sound}
 use Rattle.rules.specs.Start.{emptyTable, started, tableOfZeros}
 use Rattle.rules.proofs.Blocks as blocks
 use Rattle.rules.proofs.Domains as domains
 use Rattle.rules.proofs.Effects as effects
 use Rattle.rules.proofs.Found as found
+use Rattle.rules.proofs.Kept.Tested.{facts-of}
 use Rattle.rules.proofs.LogPages as pages
 use Rattle.rules.proofs.Questions as asked
 use Rattle.rules.proofs.Runs as runs
@@ -58,6 +61,11 @@ questions-in-order v k = asked.in-order v k
 pub always-answered : (v : Drive) (k : Call) (words bytes : List ℕ) → (r : Served) × Serves v k words bytes r
 always-answered v k words bytes = effects.always-answered v k words bytes
 
+-- And nothing else: two calls that both meet the contract hand back the same.
+pub handed-back-once : (v : Drive) (k : Call) (words bytes : List ℕ) (r s : Served)
+    → Serves v k words bytes r → Serves v k words bytes s → r ≡ s
+handed-back-once v k words bytes r s x y = effects.handed-back-once v k words bytes r s x y
+
 -- A refusal is a number alone, and leaves table, store, words and bytes as they were.
 pub refused-unchanged : (v : Drive) (k : Call) (words bytes : List ℕ) (r : Served)
     → Serves v k words bytes r
@@ -69,8 +77,8 @@ refused-unchanged v k words bytes r serves refused = effects.refused-unchanged v
 pub words-fit : (v : Drive) (k : Call) → length (wordsFilled v k) ≤ k .lent .words
 words-fit v k = effects.words-fit v k
 
-pub bytes-fit : (v : Drive) (k : Call) (filled : List ℕ) → BytesFilled v k filled → length filled ≤ k .lent .bytes
-bytes-fit v k filled fills = effects.bytes-fit v k filled fills
+pub bytes-fit : (v : Drive) (k : Call) → length (bytesFilled v k) ≤ k .lent .bytes
+bytes-fit v k = effects.bytes-fit v k
 
 -- Page and List fill as many bytes as question 7 asks for, and each field of the page stands in its place.
 pub page-length : (t : Table) (n : ℕ) → length (page (t .config) n (blockAt t n)) ≡ 256
@@ -79,14 +87,18 @@ page-length t n = pages.page-length (t .config) n (blockAt t n)
 pub page-layout : (c : Config) (n : ℕ) (b : Block) → Layout (pageFields c n b) (page c n b)
 page-layout c n b = pages.page-layout c n b
 
-pub closed-list-length : (t : Table) (d : ℕ) → length (closedList t d) ≡ listLength t d listed.Closed
-closed-list-length t d = pages.closed-list-length t d
+pub list-length : (t : Table) (d : ℕ) (which : Listed) → sound t ≡ true → isDomainId d ≡ true
+    → length (list t d which) ≡ listLength t d which
+list-length t d which is-sound id =
+    let v : Drive = record { table = t; store = [] } in
+    pages.list-length v d (is-between 1 16 d id .least) (facts-of v is-sound) which
 
-pub closed-list : (t : Table) (d : ℕ) → ClosedList t d (closedList t d)
-closed-list t d = pages.closed-list t d
-
-pub open-list-length : (t : Table) (d : ℕ) (bytes : List ℕ) → OpenList t d bytes → length bytes ≡ listLength t d listed.Open
-open-list-length t d bytes list = pages.open-list-length t d bytes list
+-- 02, Wish 2: each listed block stands in its list once and nothing else does, and their serials rise strictly.
+pub lists-in-order : (t : Table) (d : ℕ) (which : Listed) → sound t ≡ true → isDomainId d ≡ true
+    → ListsInOrder t d which (listedBlocks t d which)
+lists-in-order t d which is-sound id =
+    let v : Drive = record { table = t; store = [] } in
+    pages.lists-in-order v d (is-between 1 16 d id .least) (facts-of v is-sound) which
 
 -- The chosen block is Free, has the least P/E count, and is the lowest of those; none is chosen only where none is Free, so
 -- that a freed block is given out like any other.

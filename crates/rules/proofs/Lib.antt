@@ -7,6 +7,7 @@ pub mod Start
 pub mod Blocks
 pub mod Writes
 pub mod Found
+pub mod Serials
 pub mod LogPages
 pub mod Recorder
 pub mod Questions

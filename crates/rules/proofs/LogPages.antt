@@ -1,23 +1,28 @@
--- The page's layout, and the lengths of what Page and List fill.
-use Prim.Native.Nat.{ℕ, zero, suc, _+_, _*_, _≤_, _<_}
-use mathlib.Core.Bool.{Bool, true, cond}
+-- The page's layout, the order of the listed blocks, and the lengths of what Page and List fill.
+use Prim.Native.Nat.{ℕ, zero, suc, _+_, _-_, _*_, _≤_, _<_}
+use mathlib.Core.Bool.{true, cond}
 use mathlib.Core.List.{List, [], _∷_, _++_, append-nil}
-use mathlib.Core.Path.{_≡_, refl}
+use mathlib.Core.Option.{Option, none, some}
+use mathlib.Core.Path.{_≡_, refl, sym, ap, _∙_, subst}
 use native.Mathlib.Omega.{arith}
-use lib.Dec.{eqb, leb, ltb}
-use lib.ListN.{length}
-use borrow.Author.Tests.{eq-eqb, le-leb, le-ltb, lt-ltb, ltb-false, ltb-true}
-use Rattle.geometry.proofs.Laws.Shape.{both, by-test}
+use lib.Dec.{ltb}
+use lib.ListN.{getD, length, length-append}
+use borrow.Author.Tests.{ltb-false, ltb-true}
+use Rattle.geometry.proofs.Laws.Shape.{by-test}
 use Rattle.geometry.specs.Bytes.{littleEndian}
 use Rattle.geometry.specs.declared.shape.Config.{Config}
 use Rattle.model.specs.declared.block.Block.{Block}
+use Rattle.model.specs.declared.command.Listed.{Listed}
 use Rattle.model.specs.declared.command.Listed.the-variants as listed
 use Rattle.model.specs.declared.table.Table.{Table}
-use Rattle.rules.specs.Claims.{ClosedList, Layout, ascending}
-use Rattle.rules.specs.Counting.{numbersTo}
-use Rattle.rules.specs.Drive.{blockAt, closedCount, closedOf, openCount, openOf, size}
-use Rattle.rules.specs.LogPages.{OpenList, bytesOf, closedList, listLength, listOf, openMark, page, pageFields, timesIn}
-use Rattle.rules.proofs.Counting.{length-numbers, length-times, numbers-once, sum-same}
+use Rattle.rules.specs.Claims.{Layout, ListedBlock, ListsInOrder}
+use Rattle.rules.specs.Counting.{sumTo}
+use Rattle.rules.specs.Drive.{Drive, blockAt, blockWith, bySerialTo, closedCount, domainAt, heldBy, openCount, size, toldOf}
+use Rattle.rules.specs.LogPages.{bytesOf, ifListed, isListed, list, listLength, listOf, listedBlocks, listedCount, page, pageFields}
+use Rattle.rules.specs.Observation.{serialAt}
+use Rattle.rules.proofs.Counting.{sum-same}
+use Rattle.rules.proofs.Kept.Facts.{Facts}
+use Rattle.rules.proofs.Serials.{WithSerial, by-serial-at, by-serial-counted, serial-found}
 
 pub page-length : (c : Config) (n : ℕ) (b : Block) → length (page c n b) ≡ 256
 unfolding page bytesOf littleEndian
@@ -29,56 +34,147 @@ page-layout c n b =
     (refl, (refl, (refl, (refl, (refl, (refl, (refl, (refl, (refl, (refl, (refl, (refl, (refl, tt)))))))))))))
 
 -- A list has 8 bytes for each block and for the end mark.
-list-length : (t : Table) (mark : Block → ℕ) (ns : List ℕ) → length (listOf t mark ns) ≡ 8 * (length ns + 1)
+list-bytes : (t : Table) (mark : Block → ℕ) (ns : List ℕ) → length (listOf t mark ns) ≡ 8 * (length ns + 1)
 unfolding listOf littleEndian
-list-length t mark [] = refl
-list-length t mark (n ∷ ns) = omega (arith, list-length t mark ns)
+list-bytes t mark [] = refl
+list-bytes t mark (n ∷ ns) = omega (arith, list-bytes t mark ns)
 
-pub closed-list-length : (t : Table) (d : ℕ) → length (closedList t d) ≡ listLength t d listed.Closed
-unfolding closedList closedCount
-closed-list-length t d = rw (list-length, length-numbers)
+-- ---- Rows
 
--- A number behind all others keeps a list ascending.
-ascending-more : (first n : ℕ) (ns : List ℕ) → ascending first ns ≡ true → ((i : ℕ) → n ≤ i → timesIn i ns ≡ 0) → first ≤ n
-    → ascending first (ns ++ (n ∷ [])) ≡ true
-unfolding ascending timesIn
-ascending-more first n [] e below l = rw (le-leb first n l)
-ascending-more first n (m ∷ ns) e below l =
-    let h = both (leb first m) (ascending (m + 1) ns) e in
-    let less : m < n = by-test (ltb m n) (λ q. ltb-true m n q) (λ q. absurd (stands (below m (ltb-false m n q)))) in
-    rw (h .0) (ascending-more (m + 1) n ns (h .1) (λ i k. omega (arith, below i k)) (omega (arith, less)))
-  where
-    stands : cond (eqb m m) 1 0 + timesIn m ns ≡ 0 → ⊥
-    stands q = omega (arith, rw (eq-eqb m m refl) at q)
+-- A row with one entry more: the entries before it, and that one.
+entry-before : (xs : List ℕ) (y i : ℕ) → i < length xs → getD (xs ++ (y ∷ [])) i 0 ≡ getD xs i 0
+entry-before [] y i l = absurd (omega (arith, l))
+entry-before (x ∷ xs) y zero l = refl
+entry-before (x ∷ xs) y (suc i) l = entry-before xs y i (omega (arith, l))
 
-ascending-none : ascending 0 [] ≡ true
-unfolding ascending
-ascending-none = refl
+pub entry-behind : (xs : List ℕ) (y : ℕ) (ys : List ℕ) → getD (xs ++ (y ∷ ys)) (length xs) 0 ≡ y
+entry-behind [] y ys = refl
+entry-behind (x ∷ xs) y ys = entry-behind xs y ys
 
-numbers-rise : (p : ℕ → Bool) (n : ℕ) → ascending 0 (numbersTo p n) ≡ true
-unfolding numbersTo
-numbers-rise p zero = ascending-none
-numbers-rise p (suc n) =
-    by-test (p n)
-    (λ e. rw e (ascending-more 0 n (numbersTo p n) (numbers-rise p n) (λ i l. rw (numbers-once p n i, le-ltb i n l)) (omega arith)))
-    (λ e. rw (e, append-nil) (numbers-rise p n))
+one-longer : (xs : List ℕ) (y : ℕ) → length (xs ++ (y ∷ [])) ≡ length xs + 1
+one-longer xs y = length-append xs (y ∷ [])
 
-pub closed-list : (t : Table) (d : ℕ) → ClosedList t d (closedList t d)
-unfolding closedList
-closed-list t d = record {
-  order = numbersTo (λ n. closedOf d (blockAt t n)) (size t);
-  each-once = numbers-once (λ n. closedOf d (blockAt t n)) (size t);
-  rises = numbers-rise (λ n. closedOf d (blockAt t n)) (size t);
-  descriptors = refl;
-}
+-- ---- The listed blocks
 
-pub open-list-length : (t : Table) (d : ℕ) (bytes : List ℕ) → OpenList t d bytes → length bytes ≡ listLength t d listed.Open
-unfolding openCount
-open-list-length t d bytes l =
-    rw (
-      l .descriptors,
-      list-length t openMark (l .order),
-      length-times (size t) (l .order) (λ i k. rw (l .each-once i, le-ltb i (size t) k)),
-      sum-same (size t) (λ i. timesIn i (l .order)) (λ i. cond (openOf d (blockAt t i)) 1 0)
-          (λ i k. rw (l .each-once i, lt-ltb i (size t) k)),
-    )
+module _ (t : Table) (d : ℕ) (which : Listed) where
+  -- Those with serials up to one: each entry is listed and has such a serial, and their serials rise.
+  record Stand (up-to : ℕ) (order : List ℕ) : Type 0 where
+    entries : (i : ℕ) → i < length order → ListedBlock t d which (getD order i 0) × (blockAt t (getD order i 0) .serial ≤ up-to)
+    rise : (i j : ℕ) → i < j → j < length order → blockAt t (getD order i 0) .serial < blockAt t (getD order j 0) .serial
+
+  stand-further : (up-to : ℕ) (order : List ℕ) → Stand up-to order → Stand (suc up-to) order
+  stand-further up-to order s = record {
+    entries = λ i l. let e = s .entries i l in (e .0, omega (arith, e .1));
+    rise = s .rise;
+  }
+
+  stand-more : (up-to : ℕ) (order : List ℕ) (n : ℕ) → Stand up-to order → ListedBlock t d which n → blockAt t n .serial ≡ suc up-to
+      → Stand (suc up-to) (order ++ (n ∷ []))
+  stand-more up-to order n s is serial = record { entries = entries; rise = rise }
+    where
+      at-end : (i : ℕ) → ¬ (i < length order) → i < length (order ++ (n ∷ [])) → getD (order ++ (n ∷ [])) i 0 ≡ n
+      at-end i not-before l =
+          let last : i ≡ length order = omega (arith, not-before, l, one-longer order n) in
+          ap (λ (k : ℕ). getD (order ++ (n ∷ [])) k 0) last ∙ entry-behind order n []
+
+      entries : (i : ℕ) → i < length (order ++ (n ∷ []))
+          → ListedBlock t d which (getD (order ++ (n ∷ [])) i 0) × (blockAt t (getD (order ++ (n ∷ [])) i 0) .serial ≤ suc up-to)
+      entries i l =
+          by-test (ltb i (length order))
+          (λ e.
+          let before = ltb-true i (length order) e in
+          let x = s .entries i before in
+          subst (λ (m : ℕ). ListedBlock t d which m × (blockAt t m .serial ≤ suc up-to)) (sym (entry-before order n i before))
+          (x .0, omega (arith, x .1)))
+          (λ e.
+          subst (λ (m : ℕ). ListedBlock t d which m × (blockAt t m .serial ≤ suc up-to))
+          (sym (at-end i (λ b. omega (arith, b, ltb-false i (length order) e)) l)) (is, omega (arith, serial)))
+
+      rise : (i j : ℕ) → i < j → j < length (order ++ (n ∷ []))
+          → blockAt t (getD (order ++ (n ∷ [])) i 0) .serial < blockAt t (getD (order ++ (n ∷ [])) j 0) .serial
+      rise i j less l =
+          let first : i < length order = omega (arith, less, l, one-longer order n) in
+          subst (λ (m : ℕ). blockAt t m .serial < blockAt t (getD (order ++ (n ∷ [])) j 0) .serial) (sym (entry-before order n i first))
+          (by-test (ltb j (length order))
+          (λ e.
+          let before = ltb-true j (length order) e in
+          subst (λ (m : ℕ). blockAt t (getD order i 0) .serial < blockAt t m .serial) (sym (entry-before order n j before)) (s .rise i j less before))
+          (λ e.
+          subst (λ (m : ℕ). blockAt t (getD order i 0) .serial < blockAt t m .serial)
+          (sym (at-end j (λ b. omega (arith, b, ltb-false j (length order) e)) l))
+          (omega (arith, s .entries i first .1, serial))))
+
+  stand-found : (up-to : ℕ) (order : List ℕ) (found : Option ℕ) → WithSerial t d (suc up-to) (size t) found → Stand up-to order
+      → Stand (suc up-to) (order ++ toldOf (ifListed t which) found)
+  stand-found up-to order none o s =
+      subst (Stand (suc up-to)) (sym (append-nil order)) (stand-further up-to order s)
+  stand-found up-to order (some n) o s =
+      by-test (isListed which (blockAt t n))
+      (λ e. rw e (stand-more up-to order n s (o .0, o .1, e) (o .2)))
+      (λ e. rw (e, append-nil order) (stand-further up-to order s))
+
+  stand : (up-to : ℕ) → Stand up-to (bySerialTo (ifListed t which) t d up-to)
+  unfolding bySerialTo
+  stand zero = record { entries = λ i l. absurd (omega (arith, l)); rise = λ i j less l. absurd (omega (arith, l)) }
+  stand (suc up-to) =
+      stand-found up-to (bySerialTo (ifListed t which) t d up-to) (blockWith t d (suc up-to)) (serial-found t d (suc up-to)) (stand up-to)
+
+-- Each entry is a block that is listed.
+pub listed-only : (t : Table) (d : ℕ) (which : Listed) (up-to i : ℕ) → i < length (bySerialTo (ifListed t which) t d up-to)
+    → ListedBlock t d which (getD (bySerialTo (ifListed t which) t d up-to) i 0)
+listed-only t d which up-to i l = stand t d which up-to .entries i l .0
+
+module _ (v : Drive) (d : ℕ) (low : 1 ≤ d) (facts : Facts v) (which : Listed) where
+  abbrev order : List ℕ
+  order = listedBlocks (v .table) d which
+
+  pub lists-in-order : ListsInOrder (v .table) d which order
+  lists-in-order = record {
+    each = each;
+    only = λ i l. entries .entries i l .0;
+    once = once;
+    rises = entries .rise;
+  }
+    where
+      entries : Stand (v .table) d which (domainAt (v .table) d .last) order
+      entries = stand (v .table) d which (domainAt (v .table) d .last)
+
+      each : (n : ℕ) → ListedBlock (v .table) d which n → (i : ℕ) × (i < length order) × (getD order i 0 ≡ n)
+      each n is =
+          let at = by-serial-at v d low facts (ifListed (v .table) which) n (is .0, is .1) in
+          let front = bySerialTo (ifListed (v .table) which) (v .table) d (serialAt v n - 1) in
+          let stands : order ≡ front ++ (n ∷ at .0) = at .1 ∙ rw (is .2) in (
+            length front,
+            rw stands (omega (arith, length-append front (n ∷ at .0))),
+            ap (λ (l : List ℕ). getD l (length front) 0) stands ∙ entry-behind front n (at .0),
+          )
+
+      once : (i j : ℕ) → i < length order → j < length order → getD order i 0 ≡ getD order j 0 → i ≡ j
+      once i j l m same =
+          let serials = ap (λ (n : ℕ). blockAt (v .table) n .serial) same in
+          by-test (ltb i j)
+          (λ e. absurd (omega (arith, serials, entries .rise i j (ltb-true i j e) m)))
+          (λ e.
+          by-test (ltb j i)
+          (λ f. absurd (omega (arith, serials, entries .rise j i (ltb-true j i f) l)))
+          (λ f. omega (arith, ltb-false i j e, ltb-false j i f)))
+
+  -- They are as many as question 7 counts.
+  counted-as : (which : Listed) → listedCount (v .table) d which
+      ≡ sumTo (λ n. cond (heldBy d (blockAt (v .table) n)) (cond (isListed which (blockAt (v .table) n)) 1 0) 0) (size (v .table))
+  unfolding openCount closedCount
+  counted-as listed.Open = sum-same (size (v .table)) _ _ (λ n l.
+      by-test (heldBy d (blockAt (v .table) n)) (λ h. rw h) (λ h. rw h))
+  counted-as listed.Closed = sum-same (size (v .table)) _ _ (λ n l.
+      by-test (heldBy d (blockAt (v .table) n)) (λ h. rw h) (λ h. rw h))
+
+  pub listed-many : length order ≡ listedCount (v .table) d which
+  listed-many =
+      by-serial-counted v d low facts length refl length-append (ifListed (v .table) which)
+      ∙ sum-same (size (v .table)) _ _ (λ n l.
+      by-test (isListed which (blockAt (v .table) n)) (λ e. rw e) (λ e. rw e))
+      ∙ sym (counted-as which)
+
+  pub list-length : length (list (v .table) d which) ≡ listLength (v .table) d which
+  unfolding list
+  list-length = list-bytes (v .table) _ order ∙ ap (λ (k : ℕ). 8 * (k + 1)) listed-many

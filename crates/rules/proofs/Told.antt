@@ -1,10 +1,11 @@
 -- The outputs of specs/Told.antt are told apart: by whether the name is that of a held block, or by a byte.
+use Prim.Native.Nat.{ℕ}
 use mathlib.Core.Bool.{Bool, true, false, true≢false}
 use mathlib.Core.List.{List, [], _∷_}
 use mathlib.Core.Path.{refl, sym, ap}
 use native.Mathlib.Omega.{arith}
 use Rattle.geometry.specs.Bytes.{littleEndian}
-use Rattle.rules.specs.Observation.{Address, Descriptor, Name, Observation, ReadBytes, ReadValues, held, noBlock, numberIn, observed, other, readPage}
+use Rattle.rules.specs.Observation.{Address, Descriptor, Name, Observation, ReadBytes, ReadValues, held, noBlock, numberIn, observed, other, readDescriptors, readPage}
 use Rattle.rules.specs.Observation as seen
 use Rattle.rules.specs.Told.{ToldApart}
 use Rattle.rules.proofs.Machine.{machine}
@@ -30,10 +31,28 @@ answersOwn (seen.blocks names) = firstOwn names
 abbrev ofOwn : ReadBytes → Bool
 ofOwn (seen.plain bytes) = false
 ofOwn (seen.page front name middle rest) = isOwn name
-ofOwn (seen.list times) = false
+ofOwn (seen.list descriptors) = false
+
+abbrev serialOf : Name → ℕ
+serialOf (held serial) = serial
+serialOf other = 0
+serialOf (noBlock number) = 0
+
+abbrev firstSerial : List Descriptor → ℕ
+firstSerial [] = 0
+firstSerial (x ∷ xs) = serialOf (x .block)
+
+abbrev secondSerial : List Descriptor → ℕ
+secondSerial [] = 0
+secondSerial (x ∷ xs) = firstSerial xs
+
+abbrev descriptorsIn : ReadBytes → List Descriptor
+descriptorsIn (seen.plain bytes) = []
+descriptorsIn (seen.page front name middle rest) = []
+descriptorsIn (seen.list descriptors) = descriptors
 
 pub told-apart : ToldApart
-unfolding machine numberIn littleEndian observed readPage
+unfolding machine numberIn littleEndian observed readPage readDescriptors
 told-apart = record {
   end-or-free = λ e. true≢false (sym (ap (λ (x : Descriptor). isBlocks (x .block)) e));
   end-or-other = λ e. omega (arith, ap (λ (x : Descriptor). x .index) e);
@@ -41,5 +60,7 @@ told-apart = record {
   address = λ e. true≢false (ap (λ (x : Address). isOwn (x .block)) e);
   page = λ e. true≢false (ap (λ (x : ReadBytes). ofOwn x) e);
   answer = λ e. true≢false (ap (λ (x : Observation). answersOwn (x .values)) e);
+  order = λ e. omega (arith, ap (λ (x : Observation). firstSerial (descriptorsIn (x .bytes))) e);
+  twice = λ e. omega (arith, ap (λ (x : Observation). secondSerial (descriptorsIn (x .bytes))) e);
   index-left-out = refl;
 }

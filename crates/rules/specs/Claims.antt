@@ -2,7 +2,6 @@
 use Prim.Native.Nat.{ℕ, _+_, _≤_, _<_}
 use mathlib.Core.Bool.{Bool, true, false, _&&_, cond}
 use mathlib.Core.List.{List, [], _∷_, _++_}
-use mathlib.Core.Option.{some}
 use mathlib.Core.Path.{_≡_}
 use lib.Dec.{leb, ltb}
 use lib.ListN.{drop, getD, length, take}
@@ -12,6 +11,7 @@ use Rattle.geometry.specs.Questions.{Question, refusal}
 use Rattle.geometry.specs.Shape.{storeLength}
 use Rattle.model.specs.Blocks.{Change, allChanges, changedBy, opensNewly}
 use Rattle.model.specs.declared.block.Block.{Block}
+use Rattle.model.specs.declared.command.Listed.{Listed}
 use Rattle.model.specs.declared.table.Table.{Table}
 use Rattle.rules.specs.Blocks.{stored}
 use Rattle.rules.specs.Calls.{Call}
@@ -19,7 +19,7 @@ use Rattle.rules.specs.Counting.{sumTo}
 use Rattle.rules.specs.Domains.{covered}
 use Rattle.rules.specs.Drive.{Drive, blockAt, clearDomain, closedOf, domainAt, heldBy, heldCount, isFree, size}
 use Rattle.rules.specs.Effects.{Served, effect, verdict}
-use Rattle.rules.specs.LogPages.{Field, integrity, listOf, timesIn}
+use Rattle.rules.specs.LogPages.{Field, isListed}
 use Rattle.rules.specs.Recorder.{kept, writtenIn}
 use Rattle.rules.specs.Soundness.{sound}
 
@@ -58,7 +58,7 @@ writtenWhere these v d =
 pub record KeptAt (v : Drive) (d n : ℕ) : Type 0 where
   pub front : List ℕ
   pub rest : List ℕ
-  pub stands : kept v d ≡ front ++ (writtenIn v (some n) ++ rest)
+  pub stands : kept v d ≡ front ++ (writtenIn v n ++ rest)
   pub behind : length front ≡ writtenWhere (λ serial. ltb serial (blockAt (v .table) n .serial)) v d
 
 -- One call of a drive gets what another gets of another drive: the same number and, where both succeed, the same drive, values and words.
@@ -83,17 +83,17 @@ pub record Gone (d : ℕ) (t u : Table) : Type 0 where
   pub holds-nothing : (n : ℕ) → n < size t → heldBy d (blockAt u n) ≡ false
   pub others : (n : ℕ) → heldBy d (blockAt t n) ≡ false → blockAt u n ≡ blockAt t n
 
--- Block numbers that rise, from the first one on.
-unfoldable pub ascending : ℕ → List ℕ → Bool
-ascending first [] = true
-ascending first (n ∷ ns) = leb first n && ascending (n + 1) ns
+-- A block of the domain d that a List has.
+abbrev pub ListedBlock : Table → ℕ → Listed → ℕ → Type 0
+ListedBlock t d which n = (n < size t) × (heldBy d (blockAt t n) ≡ true) × (isListed which (blockAt t n) ≡ true)
 
--- A list of the domain's Closed blocks: each stands there once and nothing else does, in ascending number.
-pub record ClosedList (t : Table) (d : ℕ) (bytes : List ℕ) : Type 0 where
-  pub order : List ℕ
-  pub each-once : (n : ℕ) → timesIn n order ≡ cond (ltb n (size t) && closedOf d (blockAt t n)) 1 0
-  pub rises : ascending 0 order ≡ true
-  pub descriptors : bytes ≡ listOf t integrity order
+-- The listed blocks in their order: each of them stands there, at one place alone, and nothing else does; their serials rise strictly, from
+-- which `once` follows.
+pub record ListsInOrder (t : Table) (d : ℕ) (which : Listed) (order : List ℕ) : Type 0 where
+  pub each : (n : ℕ) → ListedBlock t d which n → (i : ℕ) × (i < length order) × (getD order i 0 ≡ n)
+  pub only : (i : ℕ) → i < length order → ListedBlock t d which (getD order i 0)
+  pub once : (i j : ℕ) → i < length order → j < length order → getD order i 0 ≡ getD order j 0 → i ≡ j
+  pub rises : (i j : ℕ) → i < j → j < length order → blockAt t (getD order i 0) .serial < blockAt t (getD order j 0) .serial
 
 -- The bytes from a place on.
 abbrev pub bytesAt : ℕ → ℕ → List ℕ → List ℕ

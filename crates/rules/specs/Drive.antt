@@ -1,7 +1,7 @@
 -- The drive that the rules speak of, its table and its store, and how blocks and domains are found, counted and replaced in it.
 use Prim.Native.Nat.{ℕ, zero, suc, _+_, _-_}
 use mathlib.Core.Bool.{Bool, true, false, _&&_, cond}
-use mathlib.Core.List.{List, _++_, map}
+use mathlib.Core.List.{List, [], _++_, map}
 use mathlib.Core.Option.{Option, none, some}
 use lib.Dec.{eqb}
 use lib.ListN.{drop, getD, length, set, take}
@@ -138,6 +138,20 @@ blockWithTo t d serial (suc n) =
 
 abbrev pub blockWith : Table → ℕ → ℕ → Option ℕ
 blockWith t d serial = blockWithTo t d serial (size t)
+
+-- What is told of some block, if there is one.
+abbrev pub toldOf : (ℕ → List ℕ) → Option ℕ → List ℕ
+toldOf told none = []
+toldOf told (some n) = told n
+
+-- What is told of the domain's blocks by rising serial: of those with the serials 1, 2, .. up to this one, ..
+unfoldable pub bySerialTo : (ℕ → List ℕ) → Table → ℕ → ℕ → List ℕ
+bySerialTo told t d zero = []
+bySerialTo told t d (suc serial) = bySerialTo told t d serial ++ toldOf told (blockWith t d (suc serial))
+
+-- .. and up to the domain's last one.
+abbrev pub bySerial : (ℕ → List ℕ) → Table → ℕ → List ℕ
+bySerial told t d = bySerialTo told t d (domainAt t d .last)
 
 -- The entries of block n in the store.
 unfoldable pub entriesOf : Drive → ℕ → List ℕ

@@ -1,6 +1,6 @@
 -- What each command does where every answer is yes, and what a call hands back, refused or not.
 use Prim.Native.Nat.{ℕ}
-use mathlib.Core.Bool.{Bool, true, false, cond}
+use mathlib.Core.Bool.{Bool, cond}
 use mathlib.Core.List.{List, [], _∷_, _++_}
 use mathlib.Core.Option.{Option, none, some}
 use mathlib.Core.Path.{_≡_}
@@ -11,13 +11,12 @@ use Rattle.model.specs.declared.block.Way.the-variants as way
 use Rattle.model.specs.declared.command.Command.{Command}
 use Rattle.model.specs.declared.command.Command.the-variants.{ChangeCapacity, Close, Create, Delete, Erase, Free, List as Listing, Page, Pulse, Read}
 use Rattle.model.specs.declared.command.Command.the-variants.{WriteByBlock, WriteByPlacement}
-use Rattle.model.specs.declared.command.Listed.the-variants as listed
 use Rattle.model.specs.declared.table.Table.{Table}
 use Rattle.rules.specs.Blocks.{Written, closedAt, erasedBlock, freedAt, openedFor, pulsed, stored, userAddresses, writtenByPlacement, writtenInto}
 use Rattle.rules.specs.Calls.{Asked, BytesDue, Call, append, command, latest, listBytes, noBytes, pageBytes, profileOf}
 use Rattle.rules.specs.Domains.{changedDomain, createdDomain, deletedDomain}
 use Rattle.rules.specs.Drive.{Drive, blockAt, overwritten, withDomain}
-use Rattle.rules.specs.LogPages.{OpenList, closedList, listLength, page}
+use Rattle.rules.specs.LogPages.{list, listLength, page}
 use Rattle.rules.specs.Questions.{firstQuestions, laterQuestions}
 use Rattle.rules.specs.Recorder.{appendQuestions, appended, latestKept, latestQuestions}
 
@@ -78,12 +77,11 @@ effectFor (latest d count) v k = giving (latestKept d count v) v
 unfoldable pub effect : Drive → Call → Effect
 effect v k = effectFor (k .asks) v k
 
--- The bytes that success fills; of the open list the order is left open.
-abbrev pub Fills : BytesDue → Table → List ℕ → Type 0
-Fills noBytes t bytes = bytes ≡ []
-Fills (pageBytes n) t bytes = bytes ≡ page (t .config) n (blockAt t n)
-Fills (listBytes d listed.Closed) t bytes = bytes ≡ closedList t d
-Fills (listBytes d listed.Open) t bytes = OpenList t d bytes
+-- The bytes that success fills.
+abbrev pub dueBytes : Table → BytesDue → List ℕ
+dueBytes t noBytes = []
+dueBytes t (pageBytes n) = page (t .config) n (blockAt t n)
+dueBytes t (listBytes d which) = list t d which
 
 -- How many they are.
 abbrev pub byteCount : Table → BytesDue → ℕ
@@ -108,12 +106,8 @@ step k v = cond (accepted v k) (effect v k .drive) v
 unfoldable pub wordsFilled : Drive → Call → List ℕ
 wordsFilled v k = cond (accepted v k) (effect v k .words) []
 
-abbrev pub FillsIf : Bool → BytesDue → Table → List ℕ → Type 0
-FillsIf true due t bytes = Fills due t bytes
-FillsIf false due t bytes = bytes ≡ []
-
-abbrev pub BytesFilled : Drive → Call → List ℕ → Type 0
-BytesFilled v k bytes = FillsIf (accepted v k) (profileOf (k .asks) .bytes) (v .table) bytes
+unfoldable pub bytesFilled : Drive → Call → List ℕ
+bytesFilled v k = cond (accepted v k) (dueBytes (v .table) (profileOf (k .asks) .bytes)) []
 
 -- What a call hands back: its answer, the table and the store, and what the other lent buffers then hold.
 pub record Served : Type 0 where
@@ -122,9 +116,10 @@ pub record Served : Type 0 where
   pub words : List ℕ
   pub bytes : List ℕ
 
--- What a call that is lent these words and bytes may hand back. A fill goes to the front of its buffer and touches nothing beyond.
+-- What a call that is lent these words and bytes hands back: this and nothing else (`handed-back-once` in proofs/Laws.antt). A fill
+-- goes to the front of its buffer and touches nothing beyond.
 pub record Serves (v : Drive) (k : Call) (words bytes : List ℕ) (r : Served) : Type 0 where
   pub answers : r .answer ≡ answerTo v k
   pub leaves : r .drive ≡ step k v
   pub fills-words : r .words ≡ overwritten 0 (wordsFilled v k) words
-  pub fills-bytes : (filled : List ℕ) × BytesFilled v k filled × (r .bytes ≡ overwritten 0 filled bytes)
+  pub fills-bytes : r .bytes ≡ overwritten 0 (bytesFilled v k) bytes

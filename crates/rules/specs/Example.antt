@@ -17,6 +17,7 @@ use Rattle.model.specs.declared.command.Listed.the-variants as listed
 use Rattle.rules.specs.Blocks.{anyBlock}
 use Rattle.rules.specs.Calls.{Call, lending}
 use Rattle.rules.specs.Drive.{Drive}
+use Rattle.rules.specs.LogPages.{listedBlocks}
 use Rattle.rules.specs.Noninterference.{fullyReserved, inputs}
 use Rattle.rules.specs.Observation.{Input, Name, Naming, Request, serialAt}
 use Rattle.rules.specs.ProvedTable.{call, calls, domain1, freshStore, heldIn, small}
@@ -230,8 +231,8 @@ abbrev pub blocksOf : Drive → List (ℕ × ℕ)
 blocksOf v = map (λ (n : ℕ). (n, serialAt v n)) (heldIn v)
 
 -- Both lists are as noninterference asks, and A's inputs in them are the same; each call gets its number, so the neighbours are
--- refused where the drive is full; and under the same serials A holds blocks of other numbers, and in another order, halfway and
--- in the end.
+-- refused where the drive is full; and under the same serials A holds blocks of other numbers, and in another order, halfway and in the
+-- end. Where A asks for its Closed blocks they come by rising serial in both.
 pub record NotEmpty : Type 0 where
   pub quiet-reserved : fullyReserved 1 quiet zeros ≡ true
   pub busy-reserved : fullyReserved 1 busy sevens ≡ true
@@ -241,5 +242,7 @@ pub record NotEmpty : Type 0 where
   pub busy-numbers : numbersTold busy sevens ≡ busyNumbers
   pub quiet-halfway : blocksOf (run quietHalf zeros) ≡ (0, 1) ∷ (1, 2) ∷ (2, 3) ∷ []
   pub busy-halfway : blocksOf (run busyHalf sevens) ≡ (1, 3) ∷ (5, 1) ∷ (7, 2) ∷ []
+  pub quiet-listed : listedBlocks (run (quietHalf ++ looks 0 1 7 ++ (call (Pulse 1) ∷ [])) zeros .table) 1 listed.Closed ≡ 0 ∷ 1 ∷ 2 ∷ []
+  pub busy-listed : listedBlocks (run (busyHalf ++ looks 5 7 2 ++ (call (Pulse 1) ∷ [])) sevens .table) 1 listed.Closed ≡ 5 ∷ 7 ∷ 1 ∷ []
   pub quiet-end : blocksOf (run quiet zeros) ≡ (0, 1) ∷ (1, 4) ∷ (3, 5) ∷ []
   pub busy-end : blocksOf (run busy sevens) ≡ (0, 5) ∷ (5, 1) ∷ (7, 4) ∷ []

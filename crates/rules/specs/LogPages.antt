@@ -1,9 +1,8 @@
--- Document 01, "Blocks": Super Block Information (000, 6.4.4) and the two lists, byte by byte.
+-- Document 01, "Blocks": Super Block Information (000, 6.4.4) and the two lists, byte by byte. Document 02, Wish 2: the order of the
+-- lists.
 use Prim.Native.Nat.{ℕ, _+_, _*_, _/_, min}
-use mathlib.Core.Bool.{_&&_, cond}
+use mathlib.Core.Bool.{Bool, cond}
 use mathlib.Core.List.{List, [], _∷_, _++_}
-use mathlib.Core.Path.{_≡_}
-use lib.Dec.{eqb, ltb}
 use Rattle.geometry.specs.Bytes.{littleEndian}
 use Rattle.geometry.specs.declared.shape.Config.{Config}
 use Rattle.model.specs.declared.block.Block.{Block}
@@ -14,8 +13,7 @@ use Rattle.model.specs.declared.block.Way.the-variants.{Erase, Placement}
 use Rattle.model.specs.declared.command.Listed.{Listed}
 use Rattle.model.specs.declared.command.Listed.the-variants as listed
 use Rattle.model.specs.declared.table.Table.{Table}
-use Rattle.rules.specs.Counting.{numbersTo}
-use Rattle.rules.specs.Drive.{blockAdus, blockAt, closedCount, closedOf, isClosed, isOpen, openCount, openOf, size}
+use Rattle.rules.specs.Drive.{blockAdus, blockAt, bySerial, closedCount, isClosed, isOpen, openCount}
 
 -- Open by erase 08h, its closed form 0Ah; by placement 04h and 06h. (Free is 01h in 000, but no Free block has a page.)
 abbrev pub stateByte : State → ℕ
@@ -112,24 +110,27 @@ unfoldable pub listOf : Table → (Block → ℕ) → List ℕ → List ℕ
 listOf t mark [] = endMark
 listOf t mark (n ∷ ns) = descriptor (t .config) mark n (blockAt t n) ++ listOf t mark ns
 
--- The domain's Closed blocks in ascending number with integrity in the one byte.
-unfoldable pub closedList : Table → ℕ → List ℕ
-closedList t d = listOf t integrity (numbersTo (λ n. closedOf d (blockAt t n)) (size t))
+-- As its argument says, a List has the domain's Closed blocks with integrity in the one byte, or its open blocks with the state.
+abbrev pub isListed : Listed → Block → Bool
+isListed listed.Open b = isOpen b
+isListed listed.Closed b = isClosed b
 
--- Its open blocks with the state, in an order left open: each stands there once and nothing else does.
-unfoldable pub timesIn : ℕ → List ℕ → ℕ
-timesIn n [] = 0
-timesIn n (m ∷ ms) = cond (eqb m n) 1 0 + timesIn n ms
+abbrev pub listMark : Listed → Block → ℕ
+listMark listed.Open b = stateByte (b .state)
+listMark listed.Closed b = integrity b
 
-abbrev pub openMark : Block → ℕ
-openMark b = stateByte (b .state)
+-- 02, Wish 2: the listed blocks by rising erase serial number, whatever their numbers.
+abbrev pub ifListed : Table → Listed → ℕ → List ℕ
+ifListed t which n = cond (isListed which (blockAt t n)) (n ∷ []) []
 
-pub record OpenList (t : Table) (d : ℕ) (bytes : List ℕ) : Type 0 where
-  pub order : List ℕ
-  pub each-once : (n : ℕ) → timesIn n order ≡ cond (ltb n (size t) && openOf d (blockAt t n)) 1 0
-  pub descriptors : bytes ≡ listOf t openMark order
+abbrev pub listedBlocks : Table → ℕ → Listed → List ℕ
+listedBlocks t d which = bySerial (ifListed t which) t d
 
--- How many bytes a list fills.
+-- The bytes of a List.
+unfoldable pub list : Table → ℕ → Listed → List ℕ
+list t d which = listOf t (listMark which) (listedBlocks t d which)
+
+-- How many blocks are listed, and how many bytes that fills.
 abbrev pub listedCount : Table → ℕ → Listed → ℕ
 listedCount t d listed.Open = openCount t d
 listedCount t d listed.Closed = closedCount t d

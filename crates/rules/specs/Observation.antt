@@ -1,7 +1,7 @@
 -- Document 01, "Whole runs": what a domain can tell of a drive, of a call and of a reply. Block numbers and P/E counts are not in
 -- it: a block that the domain holds goes by its serial.
 use Prim.Native.Nat.{ℕ, zero, suc, _+_, _*_, _/_, _<_}
-use mathlib.Core.Bool.{Bool, true, false, _&&_, _||_, cond}
+use mathlib.Core.Bool.{Bool, true, _||_, cond}
 use mathlib.Core.List.{List, [], _∷_, map}
 use mathlib.Core.Option.{Option, none, some}
 use mathlib.Core.Path.{_≡_}
@@ -20,7 +20,7 @@ use Rattle.rules.specs.Calls.{Asked, BytesDue, Call, Lengths, Named, Val
 use Rattle.rules.specs.Calls.{addressWords, blockInAddress, blocksAfter, blocksBefore, counts, heldBlock, heldOrFree, listBytes}
 use Rattle.rules.specs.Calls.{noBytes, noWords, pageBytes, unnamed, userWords}
 use Rattle.rules.specs.Drive.{Drive, blockAt, entriesOf, heldBy, size}
-use Rattle.rules.specs.Effects.{BytesFilled, answerTo, step, wordsFilled}
+use Rattle.rules.specs.Effects.{answerTo, bytesFilled, step, wordsFilled}
 
 -- ---- What A holds
 
@@ -147,11 +147,11 @@ pub record Reply : Type 0 where
   pub words : List ℕ
   pub bytes : List ℕ
 
--- What the rules give as a reply; it is one and no other, but for the order of an open list.
+-- What the rules give as a reply.
 pub record Replies (v : Drive) (k : Call) (r : Reply) : Type 0 where
   pub answers : r .answer ≡ answerTo v k
   pub fills-words : r .words ≡ wordsFilled v k
-  pub fills-bytes : BytesFilled v k (r .bytes)
+  pub fills-bytes : r .bytes ≡ bytesFilled v k
 
 -- The values of an answer: counts as they are, block numbers by name. For Free a block is named as A held it before the call, else
 -- as A holds it after the call.
@@ -207,35 +207,12 @@ readDescriptors a u (suc k) bytes = descriptorIn a u (take 8 bytes) ∷ readDesc
 abbrev pub readList : ℕ → Drive → List ℕ → List Descriptor
 readList a u bytes = readDescriptors a u (length bytes / 8) bytes
 
--- A List is read as its set of descriptors: by how often each stands there.
-abbrev pub isName : Name → Name → Bool
-isName (held s) (held r) = eqb s r
-isName (held s) other = false
-isName (held s) (noBlock m) = false
-isName other (held r) = false
-isName other other = true
-isName other (noBlock m) = false
-isName (noBlock n) (held r) = false
-isName (noBlock n) other = false
-isName (noBlock n) (noBlock m) = eqb n m
-
-abbrev pub isDescriptor : Descriptor → Descriptor → Bool
-isDescriptor x y =
-    isName (x .block) (y .block)
-    && eqb (x .index) (y .index)
-    && eqb (x .mark) (y .mark)
-    && eqb (x .byte6) (y .byte6)
-    && eqb (x .byte7) (y .byte7)
-
-unfoldable pub timesListed : List Descriptor → Descriptor → ℕ
-timesListed [] x = 0
-timesListed (y ∷ ys) x = cond (isDescriptor x y) 1 0 + timesListed ys x
-
--- The bytes. Of Super Block Information the block in bytes 4 to 7 by name, and the P/E index in byte 12 left out.
+-- The bytes. A List by its descriptors, in their order (02, Wish 2). Of Super Block Information the block in bytes 4 to 7 by name, and the
+-- P/E index in byte 12 left out.
 pub data ReadBytes : Type 0 where
   plain : List ℕ → ReadBytes
   page : (front : List ℕ) → Name → (middle rest : List ℕ) → ReadBytes
-  list : (Descriptor → ℕ) → ReadBytes
+  list : List Descriptor → ReadBytes
 
 unfoldable pub readPage : ℕ → Drive → List ℕ → ReadBytes
 readPage a u [] = ReadBytes.plain []
@@ -246,7 +223,7 @@ readPage a u (b ∷ bs) =
 abbrev pub readBytes : BytesDue → ℕ → Drive → List ℕ → ReadBytes
 readBytes noBytes a u bytes = ReadBytes.plain bytes
 readBytes (pageBytes n) a u bytes = readPage a u bytes
-readBytes (listBytes d which) a u bytes = ReadBytes.list (timesListed (readList a u bytes))
+readBytes (listBytes d which) a u bytes = ReadBytes.list (readList a u bytes)
 
 -- What A observes of a reply: the refusal's number or 0, the values of the answer, and what is filled.
 pub record Observation : Type 0 where

@@ -14,7 +14,7 @@ use Rattle.model.specs.declared.table.Domain.{Domain}
 use Rattle.model.specs.declared.table.Table.{Table}
 use Rattle.rules.specs.Blocks.{Written, freedAt, userAddresses, writtenByPlacement}
 use Rattle.rules.specs.Calls.{Call, Lengths, command}
-use Rattle.rules.specs.Drive.{Drive, blockAt, blockWith, closedOf, domainAt, entriesOf, size}
+use Rattle.rules.specs.Drive.{Drive, blockAt, bySerial, closedOf, domainAt, entriesOf, size}
 use Rattle.rules.specs.Questions.{firstQuestions, isCount, laterQuestions, placementQuestions}
 
 -- "one placement in a domain whose quota equals its reservation of at least 2 blocks"
@@ -65,17 +65,12 @@ appended d sample v lent = writtenByPlacement d 0 (userAddresses sample 1) (afte
 
 -- ---- Reading
 
--- "Kept are the domain's written ADUs, by rising serial, then offset": those of the blocks with serials 1, 2, .. up to the last.
-abbrev pub writtenIn : Drive → Option ℕ → List ℕ
-writtenIn v none = []
-writtenIn v (some n) = take (blockAt (v .table) n .written .0) (entriesOf v n)
-
-unfoldable pub keptTo : Drive → ℕ → ℕ → List ℕ
-keptTo v d zero = []
-keptTo v d (suc serial) = keptTo v d serial ++ writtenIn v (blockWith (v .table) d (suc serial))
+-- "Kept are the domain's written ADUs, by rising serial, then offset".
+abbrev pub writtenIn : Drive → ℕ → List ℕ
+writtenIn v n = take (blockAt (v .table) n .written .0) (entriesOf v n)
 
 abbrev pub kept : Drive → ℕ → List ℕ
-kept v d = keptTo v d (domainAt (v .table) d .last)
+kept v d = bySerial (writtenIn v) (v .table) d
 
 -- The last n of a list, or all if it has fewer.
 abbrev pub lastOf : {A : Type 0} → ℕ → List A → List A

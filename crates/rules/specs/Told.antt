@@ -1,17 +1,18 @@
 -- Outputs that A tells apart, though their block numbers have the same serial or none: a block that A holds is never read as one that it
--- does not, and of the end mark of a list every byte is kept.
+-- does not, and of the end mark of a list every byte is kept. And lists that differ in their order, or in how often a block stands there.
 use Prim.Native.Nat.{ℕ}
-use mathlib.Core.List.{List, [], _∷_}
+use mathlib.Core.List.{List, [], _∷_, _++_}
 use mathlib.Core.Path.{_≡_}
 use lib.ListN.{replicate}
 use Rattle.geometry.specs.Address.{wordOf}
 use Rattle.geometry.specs.Shape.{adus, planes}
-use Rattle.model.specs.declared.command.Command.the-variants.{Close, Create, Erase}
+use Rattle.model.specs.declared.command.Command.the-variants.{Close, Create, Erase, List as Listing}
+use Rattle.model.specs.declared.command.Listed.the-variants as which
 use Rattle.rules.specs.Blocks.{anyBlock}
 use Rattle.rules.specs.Drive.{Drive}
 use Rattle.rules.specs.Example.{zeros}
 use Rattle.rules.specs.LogPages.{endMark}
-use Rattle.rules.specs.Observation.{Reply, addressOf, descriptorIn, observed, readPage}
+use Rattle.rules.specs.Observation.{Observation, Reply, addressOf, descriptorIn, observed, readPage}
 use Rattle.rules.specs.ProvedTable.{call, calls, small}
 use Rattle.rules.specs.Runs.{run}
 
@@ -20,12 +21,25 @@ abbrev pub oneEach : Drive
 oneEach =
     run (calls (Create 1 (planes 1) (planes 0) 1 0 ∷ Create 2 (planes 1) (planes 0) 1 0 ∷ Erase 1 anyBlock ∷ Erase 2 anyBlock ∷ [])) zeros
 
+-- A reserves two blocks and erases both.
+abbrev pub two : Drive
+two = run (calls (Create 1 (planes 256) (planes 0) 1 0 ∷ Erase 1 anyBlock ∷ Erase 1 anyBlock ∷ [])) zeros
+
 -- A descriptor of a block with this index, and the address of a block's first ADU.
 abbrev pub descriptorWith : ℕ → ℕ → List ℕ
 descriptorWith n index = n ∷ 0 ∷ 0 ∷ 0 ∷ index ∷ 0 ∷ 0 ∷ 0 ∷ []
 
 abbrev pub addressIn : ℕ → ℕ
 addressIn n = wordOf small (record { domain = 1; block = n; offset = adus 0 })
+
+-- What A's List of its open blocks tells it of a reply that lists two blocks, both open by erase.
+abbrev pub openByErase : ℕ → List ℕ
+openByErase n = n ∷ 0 ∷ 0 ∷ 0 ∷ 0 ∷ 8 ∷ 0 ∷ 0 ∷ []
+
+abbrev pub listTold : ℕ → ℕ → Observation
+listTold n m =
+    observed 1 two (call (Listing 1 which.Open))
+    (record { answer = record { number = 0; values = [] }; words = []; bytes = openByErase n ++ openByErase m ++ endMark })
 
 -- Bytes that begin like a page of block n: virtual device, state and block number; the other eight are 0.
 abbrev pub pageOf : ℕ → List ℕ
@@ -48,5 +62,9 @@ pub record ToldApart : Type 0 where
   pub page : ¬ (readPage 1 oneEach (pageOf 0) ≡ readPage 1 oneEach (pageOf 1))
   -- The answers "block 0" and "block 1" to A's Close of block 0.
   pub answer : ¬ (observed 1 oneEach (call (Close 1 0)) (blockReply 0) ≡ observed 1 oneEach (call (Close 1 0)) (blockReply 1))
+  -- The same two descriptors in one order and in the other.
+  pub order : ¬ (listTold 0 1 ≡ listTold 1 0)
+  -- A list with a block twice, and one with two blocks.
+  pub twice : ¬ (listTold 0 1 ≡ listTold 0 0)
   -- But of a block that A holds the index is left out.
   pub index-left-out : descriptorIn 1 oneEach (descriptorWith 0 0) ≡ descriptorIn 1 oneEach (descriptorWith 0 77)

@@ -1,4 +1,5 @@
--- Document 01, "Where a builder goes astray": a row for each line that the table of P1 to P12 does not show already.
+-- Document 01, "Where a builder goes astray": a row for each line that the table of P1 to P12 does not show already, and one for the order of
+-- the lists (02, Wish 2).
 use Prim.Native.Nat.{ℕ}
 use mathlib.Core.List.{List, [], _∷_, _++_}
 use lib.ListN.{drop, take}
@@ -6,9 +7,11 @@ use Rattle.geometry.specs.Questions.{Outcome}
 use Rattle.geometry.specs.Shape.{adus, planes}
 use Rattle.model.specs.declared.command.Command.{Command}
 use Rattle.model.specs.declared.command.Command.the-variants.{Close, Create, Erase, Free, Pulse, WriteByBlock}
+use Rattle.model.specs.declared.command.Listed.the-variants as listed
 use Rattle.rules.specs.Blocks.{anyBlock}
 use Rattle.rules.specs.Counting.{countTo}
 use Rattle.rules.specs.Drive.{blockAt, isFree, size}
+use Rattle.rules.specs.LogPages.{list, listedBlocks}
 use Rattle.rules.specs.ProvedTable.{Row, _are_, _is_, after, calls, domain1, freshStore, leftOf, numbersGot, small}
 use Rattle.rules.specs.Runs.{answers, begun}
 
@@ -79,5 +82,18 @@ ownSerials =
     ∷ (blockAt t 3 .serial is 3)
     ∷ []
 
+-- 02, Wish 2: lists come by rising serial, whatever the block numbers; a block that is erased again comes last.
+abbrev pub listsBySerial : Row
+listsBySerial =
+    let four = guest 1 ∷ Erase 1 3 ∷ Erase 1 1 ∷ Erase 1 7 ∷ Erase 1 0 ∷ [] in
+    let closes = four ++ (Close 1 7 ∷ Close 1 1 ∷ []) in
+    let again = four ++ (Close 1 3 ∷ Erase 1 3 ∷ []) in
+    (listedBlocks (after four .table) 1 listed.Open are 3 ∷ 1 ∷ 7 ∷ 0 ∷ [])
+    ∷ (listedBlocks (after closes .table) 1 listed.Open are 3 ∷ 0 ∷ [])
+    ∷ (listedBlocks (after again .table) 1 listed.Open are 1 ∷ 7 ∷ 0 ∷ 3 ∷ [])
+    ∷ (take 8 (list (after closes .table) 1 listed.Closed) are 1 ∷ 0 ∷ 0 ∷ 0 ∷ 0 ∷ 1 ∷ 0 ∷ 0 ∷ [])
+    ∷ (drop 8 (list (after closes .table) 1 listed.Closed) are 7 ∷ 0 ∷ 0 ∷ 0 ∷ 0 ∷ 1 ∷ 0 ∷ 0 ∷ 255 ∷ 255 ∷ 255 ∷ 255 ∷ 0 ∷ 0 ∷ 0 ∷ 0 ∷ [])
+    ∷ []
+
 abbrev pub wrongTurns : List Row
-wrongTurns = keptSeconds ∷ reservedStay ∷ freedAgain ∷ ownSerials ∷ []
+wrongTurns = keptSeconds ∷ reservedStay ∷ freedAgain ∷ ownSerials ∷ listsBySerial ∷ []

@@ -1,5 +1,6 @@
 -- Laws that the functions' proofs share.
 pub mod Marking
+pub mod Telling
 pub mod Testing
 pub mod Places
 pub mod Chains

@@ -16,7 +16,7 @@ use Rattle.model.specs.declared.command.Command.{Command}
 use Rattle.model.specs.declared.table.Table.{Table}
 use Rattle.rules.proofs.Questions.{answerIn}
 use Rattle.rules.specs.Calls.{calling, domainOf, lending, profile}
-use Rattle.rules.specs.Effects.{Fills, changing, effect}
+use Rattle.rules.specs.Effects.{changing, dueBytes, effect}
 use Rattle.rules.specs.Questions.{domainQuestions, firstQuestions, laterQuestions, storeFits, storeQuestions}
 use Rattle.rules.specs.Soundness.{sound}
 use Rattle.scan.proofs.Seeing.{changed-nothing, limits-seen}
@@ -66,7 +66,7 @@ pub change-outcome : (t : Table) (c : Command) (answer : Answer) (change : Chang
     → firstNo (laterQuestions c (drive t store) (calling c store words bytes)) ≡ 0
     → changedTable change t ≡ left → effect (drive t store) (calling c store words bytes) ≡ changing values left (drive t store)
     → outcomeOf answer ≡ success values
-    → Fills (profile c .bytes) t []
+    → [] ≡ dueBytes t (profile c .bytes)
     → ServesCommand t c store words bytes (served (outcomeServed t (record { answer = answer; change = change })) store words bytes)
 change-outcome t c answer change left values store words bytes first q becomes does says bytes-are =
     rw becomes

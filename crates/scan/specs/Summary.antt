@@ -12,7 +12,7 @@ use Rattle.geometry.specs.declared.shape.Config.{Config}
 use Rattle.scan.specs.Clauses.{coveredTo, domainsSound, placeFor}
 use Rattle.scan.specs.Marks.{mark, markCount}
 use Rattle.scan.specs.Free.{Chosen, noCandidate}
-use Rattle.scan.specs.Listing.{byteTold, indexTold, isListed, listMark, listedFrom}
+use Rattle.scan.specs.Listing.{byteTold, indexTold, listedFrom, numberTold}
 use Rattle.scan.specs.Scan.{Walked}
 use Rattle.scan.specs.declared.free.Candidate.{Candidate}
 use Rattle.scan.specs.declared.scan.Subject.{Subject}
@@ -27,7 +27,7 @@ use Rattle.model.specs.declared.table.Table.{Table}
 use Rattle.rules.specs.Blocks.{chosenBlock}
 use Rattle.rules.specs.Domains.{coverage, reservedBy}
 use Rattle.rules.specs.Drive.{blockAt, clearBlock, clearDomain, domainAt, heldCount, openBlock, openCount, size}
-use Rattle.rules.specs.LogPages.{wearIndex}
+use Rattle.rules.specs.LogPages.{listMark, listedBlocks, wearIndex}
 use Rattle.rules.specs.Soundness.{domainSound, sound}
 use Rattle.tables.specs.Changing.{presentBlocks}
 
@@ -68,13 +68,15 @@ SeesChoice t x = SeesFound t (chosenBlock t) x
 abbrev pub Seen : ℕ → Summary → Type 0
 Seen d x = (t : Table) × Sees t d x
 
--- What the marks tell of each block for a list: the byte of its descriptor, counted from 1, or 0 if it is not listed; and the P/E
--- index of one that is.
+-- What the marks tell of block n at place i.
+pub record ToldAt (t : Table) (which : Listed) (n : ℕ) (marks : List ℕ) (i : ℕ) : Type 0 where
+  pub number : numberTold marks i ≡ n
+  pub byte : byteTold marks i ≡ listMark which (blockAt t n)
+  pub index : indexTold marks i ≡ wearIndex (t .config .rated) (blockAt t n .erases)
+
+-- What the marks tell of the listed blocks, in their order: each block's number, the byte of its descriptor and its P/E index.
 pub record SeesList (t : Table) (d : ℕ) (which : Listed) (x : Summary) (marks : List ℕ) : Type 0 where
-  pub bytes : x .sound ≡ true → (n : ℕ) → n < size t
-      → byteTold marks n ≡ cond (isListed which d (blockAt t n)) (listMark which (blockAt t n) + 1) 0
-  pub indexes : x .sound ≡ true → (n : ℕ) → n < size t → isListed which d (blockAt t n) ≡ true
-      → indexTold marks n ≡ wearIndex (t .config .rated) (blockAt t n .erases)
+  pub told : x .sound ≡ true → isDomainId d ≡ true → (i : ℕ) → i < length (listedBlocks t d which) → ToldAt t which (getD (listedBlocks t d which) i 0) marks i
 
 -- ---- From the scans
 

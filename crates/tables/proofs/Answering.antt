@@ -20,7 +20,7 @@ use Rattle.rules.proofs.Drive.{overwritten-nothing}
 use Rattle.rules.proofs.Questions.{answerIn, yes-in}
 use Rattle.rules.specs.Calls.{Call, Own, existing, missing, nobody, profileOf}
 use Rattle.rules.specs.Drive.{Drive, overwritten}
-use Rattle.rules.specs.Effects.{Effect, Fills, Served, Serves, accepted, askedThen, changing, effect, questions, step, verdict, wordsFilled}
+use Rattle.rules.specs.Effects.{Effect, Served, Serves, accepted, askedThen, bytesFilled, changing, dueBytes, effect, questions, step, verdict, wordsFilled}
 use Rattle.rules.specs.Questions.{domainQuestions, firstQuestions, storeQuestions}
 use Rattle.rules.specs.Soundness.{sound}
 
@@ -116,14 +116,14 @@ first-verdict v k reason e =
 refused-call : (v : Drive) (k : Call) (words bytes : List ℕ) (reason : Refusal)
     → verdict v k ≡ numberOf reason
     → Serves v k words bytes (served (refusing (v .table) reason) (v .store) words bytes)
-unfolding step wordsFilled
+unfolding step wordsFilled bytesFilled
 refused-call v k words bytes reason e =
     let no : accepted v k ≡ false = ne-eqb (verdict v k) 0 (λ z. omega (arith, refusal-positive reason, sym e ∙ z)) in
     record {
       answers = sym (answered-no (questions v k) (effect v k .values) (numberOf reason) (refusal-positive reason) e);
       leaves = rw no;
       fills-words = rw no (sym (overwritten-nothing words));
-      fills-bytes = ([], rw no, sym (overwritten-nothing bytes));
+      fills-bytes = rw no (sym (overwritten-nothing bytes));
     }
 
 -- An accepted call hands back its effect.
@@ -132,15 +132,15 @@ pub accepted-call : (v : Drive) (k : Call) (words bytes : List ℕ) (r : Served)
     → r .answer ≡ success (effect v k .values)
     → r .drive ≡ effect v k .drive
     → r .words ≡ overwritten 0 (effect v k .words) words
-    → Fills (profileOf (k .asks) .bytes) (v .table) filled
+    → filled ≡ dueBytes (v .table) (profileOf (k .asks) .bytes)
     → r .bytes ≡ overwritten 0 filled bytes
     → Serves v k words bytes r
-unfolding step wordsFilled
+unfolding step wordsFilled bytesFilled
 accepted-call v k words bytes r filled e answers leaves fills bytes-are bytes-fill = record {
   answers = answers ∙ sym (answered-yes (questions v k) (effect v k .values) e);
   leaves = leaves ∙ rw e;
   fills-words = fills ∙ rw e;
-  fills-bytes = (filled, rw e bytes-are, bytes-fill);
+  fills-bytes = bytes-fill ∙ ap (λ (l : List ℕ). overwritten 0 l bytes) bytes-are ∙ rw e;
 }
 
 -- A call is refused by one of the first questions, or by a later one.
@@ -158,7 +158,7 @@ pub then-changed : (v : Drive) (k : Call) (words bytes values : List ℕ) (answe
     → firstNo (askedThen (k .asks) v k) ≡ 0
     → effect v k ≡ changing values after-it v
     → outcomeOf answer ≡ success values
-    → Fills (profileOf (k .asks) .bytes) (v .table) []
+    → [] ≡ dueBytes (v .table) (profileOf (k .asks) .bytes)
     → Serves v k words bytes (served (answering after-it answer) (v .store) words bytes)
 then-changed v k words bytes values answer after-it first e does says bytes-are =
     accepted-call v k words bytes (served (answering after-it answer) (v .store) words bytes) []

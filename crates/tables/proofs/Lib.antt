@@ -2,3 +2,4 @@
 pub mod Refusals
 pub mod Answering
 pub mod Covering
+pub mod Ranking

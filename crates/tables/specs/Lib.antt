@@ -2,3 +2,4 @@
 pub mod Serving
 pub mod Verdicts
 pub mod Changing
+pub mod Keys

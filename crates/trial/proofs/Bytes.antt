@@ -1,21 +1,17 @@
 -- The recorder is lent no bytes: what it serves, it serves with any bytes lent beside, which stay as they were.
 use Prim.Native.Nat.{ℕ}
-use mathlib.Core.Bool.{Bool, true, false}
 use mathlib.Core.List.{List, []}
-use mathlib.Core.Path.{_≡_, refl, sym}
+use mathlib.Core.Path.{_≡_, refl, sym, ap, _∙_}
 use Rattle.geometry.specs.declared.shape.Adus.{Adus}
 use Rattle.model.specs.declared.table.Table.{Table}
 use Rattle.rules.proofs.Drive.{overwritten-nothing}
+use Rattle.rules.proofs.Effects.{fills-no-bytes}
 use Rattle.rules.specs.Calls.{Asked, append, callingFor, latest, noBytes, profileOf}
-use Rattle.rules.specs.Effects.{FillsIf, accepted, effect, questions, step, wordsFilled}
+use Rattle.rules.specs.Drive.{overwritten}
+use Rattle.rules.specs.Effects.{effect, questions, step, wordsFilled}
 use Rattle.rules.specs.Recorder.{afterFreeing}
 use Rattle.tables.specs.Serving.{ServesFor, drive, served}
 use Rattle.tables.specs.declared.served.Served.{Served}
-
--- Where no bytes are due none are filled, accepted or not.
-none-filled : (t : Table) (b : Bool) → FillsIf b noBytes t []
-none-filled t true = refl
-none-filled t false = refl
 
 -- A call that fills no bytes, and whose questions and effect are the same whatever bytes are lent.
 module _ (t : Table) (x : Asked) (store words bytes : List ℕ) (r : Served) (store′ words′ : List ℕ) where
@@ -29,11 +25,9 @@ module _ (t : Table) (x : Asked) (store words bytes : List ℕ) (r : Served) (st
     answers = rw (same-questions, same-effect) at (s .answers);
     leaves = rw (same-questions, same-effect) at (s .leaves);
     fills-words = rw (same-questions, same-effect) at (s .fills-words);
-    fills-bytes = (
-      [],
-      rw none-due (none-filled t (accepted (drive t store) (callingFor x store words bytes))),
-      sym (overwritten-nothing bytes),
-    );
+    fills-bytes =
+        sym (overwritten-nothing bytes)
+        ∙ ap (λ (l : List ℕ). overwritten 0 l bytes) (sym (fills-no-bytes (drive t store) (callingFor x store words bytes) none-due));
   }
 
 -- Neither of the recorder's calls looks at the bytes.

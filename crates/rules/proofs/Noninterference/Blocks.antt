@@ -157,13 +157,12 @@ module _ {a : ℕ} {v w : Drive} (p : Pair a v w) (call : Call) where
           (λ q. rw (closed-held one-block, closed-held other-block) (ap q closed-same))
           (p .alike .domain)
 
-      closed-told : (bytes other : List ℕ) → bytes ≡ [] → other ≡ []
-          → told a v (call asking Close a n) bytes ≡ told a w (call asking Close a m) other
+      closed-told : told a v (call asking Close a n) ≡ told a w (call asking Close a m)
       unfolding effect
-      closed-told bytes other b o =
-          rw (b, o) (ap (λ (x : Name). blockTold x)
+      closed-told =
+          ap (λ (x : Name). blockTold x)
           (same-name a (closing v n) (closing w m) n m (one-block .inside, closed-held one-block) (other-block .inside, closed-held other-block)
-          (ap (λ (h : Holding). h .serial) closed-same)))
+          (ap (λ (h : Holding). h .serial) closed-same))
 
       pub freed-alike : Alike a (effect v (call asking Free a n) .drive) (effect w (call asking Free a m) .drive)
       unfolding effect
@@ -172,18 +171,16 @@ module _ {a : ℕ} {v w : Drive} (p : Pair a v w) (call : Call) where
           (λ q. rw (freed-not-held one-block, freed-not-held other-block))
           (p .alike .domain)
 
-      freed-told : (bytes other : List ℕ) → bytes ≡ [] → other ≡ []
-          → told a v (call asking Free a n) bytes ≡ told a w (call asking Free a m) other
+      freed-told : told a v (call asking Free a n) ≡ told a w (call asking Free a m)
       unfolding effect
-      freed-told bytes other b o = rw (b, o) (ap (λ (x : Name). blockTold x) same)
+      freed-told = ap (λ (x : Name). blockTold x) same
 
     pub close-twin : Twin a v w (call asking Close a n) (call asking Close a m)
     close-twin = record {
       reading = refl;
       verdicts = first-same p call (Close a n) (Close a m) refl refl refl (λ e5. block-asked-same);
       after = λ e f. let x = close-asked v call fit-left a n e in closed-alike (lt-ltb n (size (v .table)) (x .inside)) (x .held);
-      telling = λ e f bytes other b o.
-          let x = close-asked v call fit-left a n e in closed-told (lt-ltb n (size (v .table)) (x .inside)) (x .held) bytes other b o;
+      telling = λ e f. let x = close-asked v call fit-left a n e in closed-told (lt-ltb n (size (v .table)) (x .inside)) (x .held);
     }
 
     pub free-twin : Twin a v w (call asking Free a n) (call asking Free a m)
@@ -191,6 +188,5 @@ module _ {a : ℕ} {v w : Drive} (p : Pair a v w) (call : Call) where
       reading = refl;
       verdicts = first-same p call (Free a n) (Free a m) refl refl refl (λ e5. block-asked-same);
       after = λ e f. let x = free-asked v call fit-left a n e in freed-alike (lt-ltb n (size (v .table)) (x .inside)) (x .held);
-      telling = λ e f bytes other b o.
-          let x = free-asked v call fit-left a n e in freed-told (lt-ltb n (size (v .table)) (x .inside)) (x .held) bytes other b o;
+      telling = λ e f. let x = free-asked v call fit-left a n e in freed-told (lt-ltb n (size (v .table)) (x .inside)) (x .held);
     }

@@ -174,7 +174,7 @@ module _ {a : ℕ} {v w : Drive} (p : Pair a v w) (call : Call) where
     reading = refl;
     verdicts = create-verdicts guarantee quota placements limit left right;
     after = create-after guarantee quota placements limit;
-    telling = λ e f bytes other x y. rw (x, y);
+    telling = λ e f. refl;
   }
 
   -- ---- Change Capacity
@@ -215,7 +215,7 @@ module _ {a : ℕ} {v w : Drive} (p : Pair a v w) (call : Call) where
     reading = refl;
     verdicts = change-verdicts guarantee quota left right;
     after = change-after guarantee quota;
-    telling = λ e f bytes other x y. rw (x, y);
+    telling = λ e f. refl;
   }
 
   -- ---- Delete
@@ -263,5 +263,5 @@ module _ {a : ℕ} {v w : Drive} (p : Pair a v w) (call other : Call) (seconds :
     reading = refl;
     verdicts = pulse-verdicts;
     after = λ e f. pulse-after;
-    telling = λ e f bytes others x y. rw (x, y);
+    telling = λ e f. refl;
   }

@@ -34,12 +34,12 @@ use Rattle.rules.proofs.Noninterference.Twins.{Twin, ask-same}
 use Rattle.rules.proofs.Questions.{answered-yes}
 
 -- What an effect that opens a block is told as.
-abbrev toldOf : ℕ → Effect → List ℕ → Observation
-toldOf a x bytes = record {
+abbrev toldBy : ℕ → Effect → Observation
+toldBy a x = record {
   number = 0;
   values = ReadValues.blocks (map (nameOf a (x .drive)) (x .values));
   words = ReadWords.plain (x .words);
-  bytes = ReadBytes.plain bytes;
+  bytes = ReadBytes.plain [];
 }
 
 abbrev freeing : Drive → ℕ → Drive
@@ -160,16 +160,16 @@ module _ {a : ℕ} {v w : Drive} (p : Pair a v w) (call : Call) (n m : ℕ) (sam
   -- Both open a block, with the same holding, and are alike afterwards.
   record Opened (x y : Effect) : Type 0 where
     alike : Alike a (x .drive) (y .drive)
-    told-same : (bytes other : List ℕ) → bytes ≡ [] → other ≡ [] → toldOf a x bytes ≡ toldOf a y other
+    told-same : toldBy a x ≡ toldBy a y
 
   opened-effects : (k j : ℕ) → Holds a (openedFor a way.Erase k v) k → Holds a (openedFor a way.Erase j w) j → Alike a (openedFor a way.Erase k v) (openedFor a way.Erase j w)
       → holdingAt (openedFor a way.Erase k v) k ≡ holdingAt (openedFor a way.Erase j w) j
       → Opened (opensBlock v k) (opensBlock w j)
   opened-effects k j x y s h = record {
     alike = s;
-    told-same = λ bytes other b o.
-        rw (b, o) (ap (λ (z : Name). blockTold z)
-        (same-name a (openedFor a way.Erase k v) (openedFor a way.Erase j w) k j x y (ap (λ (z : Holding). z .serial) h)));
+    told-same =
+        ap (λ (z : Name). blockTold z)
+        (same-name a (openedFor a way.Erase k v) (openedFor a way.Erase j w) k j x y (ap (λ (z : Holding). z .serial) h));
   }
 
   module _ (e : verdict v (call asking Erase a n) ≡ 0) (f : verdict w (call asking Erase a m) ≡ 0) where
@@ -215,5 +215,5 @@ module _ {a : ℕ} {v w : Drive} (p : Pair a v w) (call : Call) (n m : ℕ) (sam
     reading = refl;
     verdicts = erase-verdicts;
     after = λ e f. erase-opened e f .alike;
-    telling = λ e f bytes other b o. erase-opened e f .told-same bytes other b o;
+    telling = λ e f. erase-opened e f .told-same;
   }

@@ -16,12 +16,12 @@ use Rattle.model.specs.declared.command.Command.the-variants.{List as Listing, 
 use Rattle.model.specs.declared.command.Listed.{Listed}
 use Rattle.model.specs.declared.command.Listed.the-variants as listed
 use Rattle.rules.specs.Blocks.{matches, stored}
-use Rattle.rules.specs.Calls.{Call, _asking_, listBytes}
+use Rattle.rules.specs.Calls.{Call, _asking_}
 use Rattle.rules.specs.Drive.{Drive, blockAt, entriesOf, heldBy, size}
-use Rattle.rules.specs.Effects.{Fills, effect, questions, verdict}
+use Rattle.rules.specs.Effects.{effect, questions, verdict}
 use Rattle.rules.specs.LogPages.{listedCount, page}
 use Rattle.rules.specs.Observation.{Descriptor, Holding, Observation, ReadBytes, ReadValues, ReadWords, holdingAt, nameOf}
-use Rattle.rules.specs.Observation.{readList, readPage, timesListed}
+use Rattle.rules.specs.Observation.{readPage}
 use Rattle.rules.specs.Questions.{isCount, isHeld}
 use Rattle.rules.proofs.Kept.Calls.{Course}
 use Rattle.rules.proofs.Kept.Entries.{stored-entries}
@@ -29,7 +29,8 @@ use Rattle.rules.proofs.Kept.Facts.{written-most}
 use Rattle.rules.proofs.Kept.OneBlock.{few-blocks, open-alike}
 use Rattle.rules.proofs.Kept.Views.{Alike, closed-view, ifClosed}
 use Rattle.rules.proofs.Noninterference.Common.{Pair, first-same, holding-same, inside-other, inside-same, own-other, own-same}
-use Rattle.rules.proofs.Noninterference.Readings.{closed-read, open-read, page-read}
+use Rattle.rules.proofs.Noninterference.Pairing.{same-holdings}
+use Rattle.rules.proofs.Noninterference.Readings.{list-read, page-read}
 use Rattle.rules.proofs.Noninterference.Twins.{Twin, ask-same, told}
 use Rattle.rules.proofs.Questions.{answered-yes}
 use Rattle.rules.proofs.Writes.{Ready}
@@ -85,22 +86,18 @@ module _ {a : ℕ} {v w : Drive} (p : Pair a v w) (call : Call) where
         (ltb-true m (size (w .table)) (inside-other p n m same inside), own-other p n m same inside own)
         (holding-same p n m same inside own)
 
-    page-told : verdict v (call asking Page a n) ≡ 0 → (bytes other : List ℕ)
-        → bytes ≡ page (v .table .config) n (blockAt (v .table) n)
-        → other ≡ page (w .table .config) m (blockAt (w .table) m)
-        → told a v (call asking Page a n) bytes ≡ told a w (call asking Page a m) other
+    page-told : verdict v (call asking Page a n) ≡ 0 → told a v (call asking Page a n) ≡ told a w (call asking Page a m)
     unfolding effect questions
-    page-told e bytes other b o =
-        rw (b, o)
-        (ap (λ (x : ReadBytes). bytesTold x)
-        (pages-same (answered-yes v (call asking Page a n) 6 e) (answered-yes v (call asking Page a n) 9 e)))
+    page-told e =
+        ap (λ (x : ReadBytes). bytesTold x)
+        (pages-same (answered-yes v (call asking Page a n) 6 e) (answered-yes v (call asking Page a n) 9 e))
 
   pub page-twin : (n m : ℕ) → nameOf a v n ≡ nameOf a w m → Twin a v w (call asking Page a n) (call asking Page a m)
   page-twin n m same = record {
     reading = refl;
     verdicts = page-verdicts n m same;
     after = λ e f. page-alike n m same;
-    telling = λ e f bytes other b o. page-told n m same e bytes other b o;
+    telling = λ e f. page-told n m same e;
   }
 
   -- ---- List
@@ -118,24 +115,18 @@ module _ {a : ℕ} {v w : Drive} (p : Pair a v w) (call : Call) where
   unfolding effect
   list-alike which = p .alike
 
-  lists-same : (which : Listed) (bytes other : List ℕ) → Fills (listBytes a which) (v .table) bytes
-      → Fills (listBytes a which) (w .table) other → timesListed (readList a v bytes) ≡ timesListed (readList a w other)
-  lists-same listed.Open bytes other b o = open-read a v w bytes other (p .alike) (few-blocks (p .left .facts)) b o
-  lists-same listed.Closed bytes other b o = rw (b, o) (closed-read a v w (p .alike) (few-blocks (p .left .facts)))
-
-  list-told : (which : Listed) (bytes other : List ℕ) → Fills (listBytes a which) (v .table) bytes
-      → Fills (listBytes a which) (w .table) other
-      → told a v (call asking Listing a which) bytes ≡ told a w (call asking Listing a which) other
+  list-told : (which : Listed) → told a v (call asking Listing a which) ≡ told a w (call asking Listing a which)
   unfolding effect
-  list-told which bytes other b o =
-      ap (λ (times : Descriptor → ℕ). bytesTold (ReadBytes.list times)) (lists-same which bytes other b o)
+  list-told which =
+      ap (λ (ds : List Descriptor). bytesTold (ReadBytes.list ds))
+      (list-read a v w (same-holdings (p .low) (p .right .facts) (p .alike)) which (p .alike) (few-blocks (p .left .facts)))
 
   pub list-twin : (which : Listed) → Twin a v w (call asking Listing a which) (call asking Listing a which)
   list-twin which = record {
     reading = refl;
     verdicts = list-verdicts which;
     after = λ e f. list-alike which;
-    telling = λ e f bytes other b o. list-told which bytes other b o;
+    telling = λ e f. list-told which;
   }
 
   -- ---- Read
@@ -211,10 +202,10 @@ module _ {a : ℕ} {v w : Drive} (p : Pair a v w) (call : Call) where
         (both (isHeld (v .table) a (f .block)) (eqb (f .domain) a) (answered-yes v (call asking c) 9 e) .0)
         (answered-yes v (call asking c) 15 e)
 
-    read-told : verdict v (call asking Read a x count expected) ≡ 0 → (bytes other : List ℕ) → bytes ≡ [] → other ≡ []
-        → told a v (call asking Read a x count expected) bytes ≡ told a w (call asking Read a y count expected) other
+    read-told : verdict v (call asking Read a x count expected) ≡ 0
+        → told a v (call asking Read a x count expected) ≡ told a w (call asking Read a y count expected)
     unfolding effect
-    read-told e bytes other b o = rw (b, o) (ap (λ (l : List ℕ). wordsTold l) (words-same e))
+    read-told e = ap (λ (l : List ℕ). wordsTold l) (words-same e)
 
   pub read-twin : (x y : ℕ) (count : Adus) (expected : ℕ)
       → nameOf a v (fieldsOf (v .table .config) x .block) ≡ nameOf a w (fieldsOf (w .table .config) y .block)
@@ -225,5 +216,5 @@ module _ {a : ℕ} {v w : Drive} (p : Pair a v w) (call : Call) where
     reading = refl;
     verdicts = read-verdicts x y count expected same domain offset;
     after = λ e f. read-alike x y count expected same domain offset;
-    telling = λ e f bytes other b o. read-told x y count expected same domain offset e bytes other b o;
+    telling = λ e f. read-told x y count expected same domain offset e;
   }

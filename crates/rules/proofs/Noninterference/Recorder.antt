@@ -136,10 +136,9 @@ module _ {a : ℕ} {v w : Drive} (p : Pair a v w) (call : Call) (sample : ℕ) w
     unfolding effect
     append-alike = placement-alike room-pair 0 call sample (adus 1) left-write right-write
 
-    append-told : (bytes other : List ℕ) → bytes ≡ [] → other ≡ []
-        → told a v (call for append a sample) bytes ≡ told a w (call for append a sample) other
+    append-told : told a v (call for append a sample) ≡ told a w (call for append a sample)
     unfolding effect
-    append-told bytes other b o = placement-told room-pair 0 call sample (adus 1) left-write right-write bytes other b o
+    append-told = placement-told room-pair 0 call sample (adus 1) left-write right-write
 
 module _ {a : ℕ} {v w : Drive} (p : Pair a v w) (call : Call) where
   pub append-twin : (sample : ℕ) → Twin a v w (call for append a sample) (call for append a sample)
@@ -147,7 +146,7 @@ module _ {a : ℕ} {v w : Drive} (p : Pair a v w) (call : Call) where
     reading = refl;
     verdicts = append-verdicts p call sample;
     after = λ e f. append-alike p call sample e f;
-    telling = λ e f bytes other b o. append-told p call sample e f bytes other b o;
+    telling = λ e f. append-told p call sample e f;
   }
 
   -- ---- Reading
@@ -164,5 +163,5 @@ module _ {a : ℕ} {v w : Drive} (p : Pair a v w) (call : Call) where
         ask-same _ _ _ _ _ refl (λ e7.
         ask-same _ _ _ _ _ (ap (λ (l : List ℕ). leb (count .0) (length l)) both-keep) (λ e15. refl))));
     after = λ e f. p .alike;
-    telling = λ e f bytes other b o. rw (b, o) (ap (λ (l : List ℕ). wordsTold (lastOf (count .0) l)) both-keep);
+    telling = λ e f. ap (λ (l : List ℕ). wordsTold (lastOf (count .0) l)) both-keep;
   }

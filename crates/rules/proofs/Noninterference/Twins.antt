@@ -3,7 +3,7 @@
 use Prim.Native.Nat.{ℕ}
 use mathlib.Core.Bool.{Bool, true, false}
 use mathlib.Core.List.{List, [], _∷_}
-use mathlib.Core.Path.{_≡_, refl, sym, ap, ap₂, _∙_, subst}
+use mathlib.Core.Path.{_≡_, refl, sym, ap, ap₂, _∙_}
 use lib.Dec.{eqb}
 use borrow.Author.Tests.{eqb-true}
 use Rattle.geometry.proofs.Laws.Shape.{by-test}
@@ -11,9 +11,9 @@ use Rattle.geometry.specs.Questions.{Question, answered, ask, firstNo, refusal,
 use Rattle.rules.specs.Calls.{BytesDue, Call, Profile, Values, WordsDue, addressWords, blocksAfter, blocksBefore, counts, listBytes}
 use Rattle.rules.specs.Calls.{noBytes, noWords, pageBytes, profileOf, userWords}
 use Rattle.rules.specs.Drive.{Drive}
-use Rattle.rules.specs.Effects.{Fills, FillsIf, accepted, effect, step, verdict, wordsFilled}
+use Rattle.rules.specs.Effects.{accepted, bytesFilled, dueBytes, effect, step, verdict, wordsFilled}
 use Rattle.rules.specs.Observation.{Observation, ReadBytes, ReadValues, ReadWords, Replies, Reply, observed, readBytes}
-use Rattle.rules.specs.Observation.{readDescriptors, readPage, readValues, readWords, timesListed}
+use Rattle.rules.specs.Observation.{readDescriptors, readPage, readValues, readWords}
 use Rattle.rules.proofs.Kept.Views.{Alike}
 
 -- Two lists of questions with the same first no.
@@ -26,15 +26,15 @@ ask-same n b c qs rs same rest =
     (λ e. rw (e, sym same ∙ e))
 
 -- What a reply to an accepted call reads as.
-abbrev pub told : ℕ → Drive → Call → List ℕ → Observation
-told a v k bytes =
+abbrev pub told : ℕ → Drive → Call → Observation
+told a v k =
     let p = profileOf (k .asks) in
     let x = effect v k in
     record {
       number = 0;
       values = readValues (p .values) a v (x .drive) (x .values);
       words = readWords (p .words) a (x .drive) (x .words);
-      bytes = readBytes (p .bytes) a (x .drive) bytes;
+      bytes = readBytes (p .bytes) a (x .drive) (dueBytes (v .table) (p .bytes));
     }
 
 -- ---- A refusal reads as its number alone.
@@ -52,7 +52,7 @@ refusedWords (addressWords count) = ReadWords.addresses []
 abbrev pub refusedBytes : BytesDue → ReadBytes
 refusedBytes noBytes = ReadBytes.plain []
 refusedBytes (pageBytes n) = ReadBytes.plain []
-refusedBytes (listBytes d which) = ReadBytes.list (λ x. 0)
+refusedBytes (listBytes d which) = ReadBytes.list []
 
 abbrev pub refusedAs : Profile → ℕ → Observation
 refusedAs p n = record {
@@ -73,7 +73,7 @@ no-words (userWords count) a u = refl
 no-words (addressWords count) a u = refl
 
 no-bytes : (due : BytesDue) (a : ℕ) (u : Drive) → readBytes due a u [] ≡ refusedBytes due
-unfolding readPage readDescriptors timesListed
+unfolding readPage readDescriptors
 no-bytes noBytes a u = refl
 no-bytes (pageBytes n) a u = refl
 no-bytes (listBytes d which) a u = refl
@@ -83,9 +83,7 @@ pub record Twin (a : ℕ) (v w : Drive) (k l : Call) : Type 0 where
   pub reading : refusedAs (profileOf (k .asks)) ≡ refusedAs (profileOf (l .asks))
   pub verdicts : verdict v k ≡ verdict w l
   pub after : verdict v k ≡ 0 → verdict w l ≡ 0 → Alike a (effect v k .drive) (effect w l .drive)
-  pub telling : verdict v k ≡ 0 → verdict w l ≡ 0
-      → (bytes other : List ℕ) → Fills (profileOf (k .asks) .bytes) (v .table) bytes → Fills (profileOf (l .asks) .bytes) (w .table) other
-      → told a v k bytes ≡ told a w l other
+  pub telling : verdict v k ≡ 0 → verdict w l ≡ 0 → told a v k ≡ told a w l
 
 -- What the rules reply to a refused and to an accepted call.
 module _ (a : ℕ) (v : Drive) (k : Call) (r : Reply) (replies : Replies v k r) where
@@ -93,23 +91,21 @@ module _ (a : ℕ) (v : Drive) (k : Call) (r : Reply) (replies : Replies v k r) 
   p = profileOf (k .asks)
 
   refused-read : accepted v k ≡ false → observed a v k r ≡ refusedAs p (verdict v k)
-  unfolding observed wordsFilled answered
+  unfolding observed wordsFilled bytesFilled answered
   refused-read e =
       let u = step k v in
       let answer : r .answer ≡ refusal (verdict v k) = replies .answers ∙ (rw e) in
       let words : r .words ≡ [] = replies .fills-words ∙ (rw e) in
-      let bytes : r .bytes ≡ [] = subst (λ (b : Bool). FillsIf b (p .bytes) (v .table) (r .bytes)) e (replies .fills-bytes) in
+      let bytes : r .bytes ≡ [] = replies .fills-bytes ∙ (rw e) in
       rw (answer, words, bytes, no-values (p .values) a v u, no-words (p .words) a u, no-bytes (p .bytes) a u)
 
-  accepted-read : accepted v k ≡ true → observed a v k r ≡ told a v k (r .bytes)
-  unfolding observed wordsFilled answered step
+  accepted-read : accepted v k ≡ true → observed a v k r ≡ told a v k
+  unfolding observed wordsFilled bytesFilled answered step
   accepted-read e =
       let answer : r .answer ≡ success (effect v k .values) = replies .answers ∙ (rw e) in
       let words : r .words ≡ effect v k .words = replies .fills-words ∙ (rw e) in
-      rw (answer, words, e)
-
-  accepted-fills : accepted v k ≡ true → Fills (p .bytes) (v .table) (r .bytes)
-  accepted-fills e = subst (λ (b : Bool). FillsIf b (p .bytes) (v .table) (r .bytes)) e (replies .fills-bytes)
+      let bytes : r .bytes ≡ dueBytes (v .table) (p .bytes) = replies .fills-bytes ∙ (rw e) in
+      rw (answer, words, bytes, e)
 
 -- ---- What follows for two calls
 
@@ -132,8 +128,7 @@ module _ {a : ℕ} {v w : Drive} (k l : Call) (alike : Alike a v w) (twin : Twin
       (λ e.
       let f = sym both-accepted ∙ e in
       accepted-read a v k r x e
-      ∙ twin .telling (eqb-true (verdict v k) 0 e) (eqb-true (verdict w l) 0 f) (r .bytes) (s .bytes)
-      (accepted-fills a v k r x e) (accepted-fills a w l s y f)
+      ∙ twin .telling (eqb-true (verdict v k) 0 e) (eqb-true (verdict w l) 0 f)
       ∙ sym (accepted-read a w l s y f))
       (λ e.
       refused-read a v k r x e

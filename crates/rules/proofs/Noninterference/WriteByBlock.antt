@@ -90,22 +90,20 @@ module _ {a : ℕ} {v w : Drive} (p : Pair a v w) (call : Call) (n m start : ℕ
     unfolding effect
     block-alike = written-alike (p .alike) left right one-holding
 
-    block-told : (bytes other : List ℕ) → bytes ≡ [] → other ≡ []
-        → told a v (call asking WriteByBlock a n start count) bytes ≡ told a w (call asking WriteByBlock a m start count) other
+    block-told : told a v (call asking WriteByBlock a n start count) ≡ told a w (call asking WriteByBlock a m start count)
     unfolding effect
-    block-told bytes other b o =
-        rw (b, o)
-        (ap (λ (l : List Address). addressesTold l)
+    block-told =
+        ap (λ (l : List Address). addressesTold l)
         (written-read (p .alike) left right one-holding (writtenInto a n users v .drive) (writtenInto a m users w .drive) (p .left .facts .limits)
         (written-ready left .shape)
         (written-ready right .shape)
         (same-name a (writtenInto a n users v .drive) (writtenInto a m users w .drive) n m (into-holds left) (into-holds right)
-        (ap (λ (h : Holding). h .serial) (written-same (p .alike) left right one-holding)))))
+        (ap (λ (h : Holding). h .serial) (written-same (p .alike) left right one-holding))))
 
   pub write-block-twin : Twin a v w (call asking WriteByBlock a n start count) (call asking WriteByBlock a m start count)
   write-block-twin = record {
     reading = refl;
     verdicts = write-verdicts;
     after = λ e f. block-alike e f;
-    telling = λ e f bytes other b o. block-told e f bytes other b o;
+    telling = λ e f. block-told e f;
   }

@@ -361,15 +361,14 @@ module _ {a : ℕ} {v w : Drive} (p : Pair a v w) (k : ℕ) where
       unfolding effect
       placement-alike = placement-same .alike
 
-      pub placement-told : (bytes other : List ℕ) → bytes ≡ [] → other ≡ []
-          → told a v (call asking WriteByPlacement a k start count) bytes ≡ told a w (call asking WriteByPlacement a k start count) other
+      pub placement-told : told a v (call asking WriteByPlacement a k start count) ≡ told a w (call asking WriteByPlacement a k start count)
       unfolding effect
-      placement-told bytes other b o = rw (b, o) (ap (λ (l : List Address). addressesTold l) (placement-same .read))
+      placement-told = ap (λ (l : List Address). addressesTold l) (placement-same .read)
 
     pub write-placement-twin : Twin a v w (call asking WriteByPlacement a k start count) (call asking WriteByPlacement a k start count)
     write-placement-twin = record {
       reading = refl;
       verdicts = placement-verdicts;
       after = λ e f. placement-alike e f;
-      telling = λ e f bytes other b o. placement-told e f bytes other b o;
+      telling = λ e f. placement-told e f;
     }

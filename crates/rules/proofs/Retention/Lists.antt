@@ -28,11 +28,11 @@ use Rattle.rules.specs.Calls.{Asked, Call, _asking_, _for_, append, comm
 use Rattle.rules.specs.Claims.{Found, LentOwn, Shaped}
 use Rattle.rules.specs.Counting.{implies, rowTo}
 use Rattle.rules.specs.Domains.{createdDomain}
-use Rattle.rules.specs.Drive.{Drive, blockAt, clearDomain, domainAt, entriesOf, heldBy, isOpen, isOpenFor, openBlock, openOf, size}
+use Rattle.rules.specs.Drive.{Drive, blockAt, bySerialTo, clearDomain, domainAt, entriesOf, heldBy, isOpen, isOpenFor, openBlock, openOf, size}
 use Rattle.rules.specs.Effects.{accepted, effect, questions, step, verdict, wordsFilled}
 use Rattle.rules.specs.Observation.{Holds, serialAt}
 use Rattle.rules.specs.Questions.{exists}
-use Rattle.rules.specs.Recorder.{hasRecorderShape, kept, keptTo, lastOf, sampleWrite, afterFreeing}
+use Rattle.rules.specs.Recorder.{hasRecorderShape, kept, lastOf, sampleWrite, afterFreeing, writtenIn}
 use Rattle.rules.specs.Retention.{EndsWith, Retains, expiresNone, onlyRecords, recorderAlone, retained, sampleOf, acceptedSamples}
 use Rattle.rules.specs.Runs.{run}
 use Rattle.rules.proofs.Appending.{fit, held, is-oldest, made, none-open, none-open-after, none-takes, one-takes, quota-reached, room-or-not}
@@ -392,7 +392,7 @@ module _ (v : Drive) (course : Course v) (k : Call) (a : ℕ) (guarantee quota :
   w = effect v create .drive
 
   created-recording : verdict v create ≡ 0 → hasRecorderShape (domainAt (w .table) a) ≡ true → Recording a [] w
-  unfolding effect questions createdDomain keptTo
+  unfolding effect questions createdDomain bySerialTo
   created-recording e shaped =
       let t = v .table in
       let id = is-between 1 16 a (answered-yes v create 4 e) in
@@ -406,7 +406,7 @@ module _ (v : Drive) (course : Course v) (k : Call) (a : ℕ) (guarantee quota :
         shaped = shaped;
         each = λ n h. absurd (nobody n h);
         dropped = [];
-        all = sym (ap (λ (d : Domain). keptTo w a (d .last)) is);
+        all = sym (ap (λ (d : Domain). bySerialTo (writtenIn w) (w .table) a (d .last)) is);
         enough = λ some-dropped. absurd (omega (arith, some-dropped));
       }
     where

@@ -24,9 +24,9 @@ use Rattle.model.specs.declared.table.Domain.{Domain}
 use Rattle.rules.specs.Blocks.{nextSerial, openedFor, withLast, writtenInto}
 use Rattle.rules.specs.Claims.{Oldest}
 use Rattle.rules.specs.Counting.{sumTo}
-use Rattle.rules.specs.Drive.{Drive, blockAt, clearDomain, domainAt, entriesOf, heldBy, heldCount, isClosed, isClosedState, isOpen, isOpenFor, isOpenState, isPlacedState, overwritten, size}
+use Rattle.rules.specs.Drive.{Drive, blockAt, bySerialTo, clearDomain, domainAt, entriesOf, heldBy, heldCount, isClosed, isClosedState, isOpen, isOpenFor, isOpenState, isPlacedState, overwritten, size}
 use Rattle.rules.specs.Observation.{Holding, Holds, holdingAt, serialAt}
-use Rattle.rules.specs.Recorder.{freedIfAny, hasRecorderShape, kept, keptTo, lastOf, writtenIn}
+use Rattle.rules.specs.Recorder.{freedIfAny, hasRecorderShape, kept, lastOf, writtenIn}
 use Rattle.rules.specs.Retention.{EndsWith, retained}
 use Rattle.rules.proofs.Counting.{by-eq}
 use Rattle.rules.proofs.Kept.Changes.{HeldBlock, Openable, Writable, freed-changed, freed-facts, freed-not-held, opened-changed, opened-domain, opened-held, opened-record}
@@ -38,7 +38,8 @@ use Rattle.rules.proofs.Kept.Onwards.{OpenTo}
 use Rattle.rules.proofs.Kept.Views.{Alike, Changed, alike-back, held-view, one, view, view-changed, weight}
 use Rattle.rules.proofs.Noninterference.Blocks.{fill-holding, open-holding}
 use Rattle.rules.proofs.Noninterference.Pairing.{partner, same-holdings}
-use Rattle.rules.proofs.Noninterference.Samples.{end-changed, freed-kept, kept-length, kept-same, opened-kept, serial-given, serial-same, take-overwritten, written}
+use Rattle.rules.proofs.Noninterference.Samples.{end-changed, freed-kept, kept-length, kept-same, keptTo, opened-kept, serial-same, take-overwritten, written}
+use Rattle.rules.proofs.Serials.{serial-given}
 use Rattle.rules.proofs.Writes.{Ready}
 
 -- ---- Lists
@@ -156,15 +157,15 @@ module _ {a n u : ℕ} {v : Drive} (facts : Facts v) (x : Writable a n (u ∷ []
   -- The sample stands at the end of what is kept.
   pub sample-last : kept w a ≡ kept v a ++ (u ∷ [])
   sample-last =
-      let given = serial-given v a (x .low) facts (x .ready) n holds in
+      let given = serial-given v a (x .low) facts n holds in
       let e = end-changed (written-changed x) holds holds' (filled .1) serial-is (ap (λ (d : Domain). d .last) domain-same) (given .0)
       (facts .unique a (serialAt v n) (x .low)) (facts' .unique a (serialAt v n) (x .low)) in
       let at = b .written .0 in
       let room : at ≤ length (entriesOf v n) = omega (arith, x .fits, entries-length (v .table .config) v n (x .ready) (x .inside)) in
-      let written-more : writtenIn w (some n) ≡ writtenIn v (some n) ++ (u ∷ []) =
+      let written-more : writtenIn w n ≡ writtenIn v n ++ (u ∷ []) =
       ap₂ (λ (k : ℕ) (l : List ℕ). take k l) (filled .2) (filled .3) ∙ take-overwritten at (u ∷ []) (entriesOf v n) room in
       e .2 ∙ ap (λ (l : List ℕ). e .0 ++ l) written-more
-      ∙ sym (append-assoc (e .0) (writtenIn v (some n)) (u ∷ [])) ∙ ap (λ (l : List ℕ). l ++ (u ∷ [])) (sym (e .1))
+      ∙ sym (append-assoc (e .0) (writtenIn v n) (u ∷ [])) ∙ ap (λ (l : List ℕ). l ++ (u ∷ [])) (sym (e .1))
 
   recording-so : (xs : List ℕ) → Recording a xs v → Recording a (xs ++ (u ∷ [])) w
   recording-so xs r = record {
@@ -312,9 +313,9 @@ module _ {a n : ℕ} {xs : List ℕ} {v : Drive} (facts : Facts v) (ready : Read
       (λ e. absurd (true≢false (sym (x .1) ∙ subst (λ (i : ℕ). heldBy a (blockAt (freed .table) i) ≡ false) (sym e) (freed-not-held h))))
       (λ other. let same = less .blocks m other in ((x .0, subst (λ (y : Block). heldBy a y ≡ true) same (x .1)), same))
 
-  gone : kept v a ≡ writtenIn v (some n) ++ kept freed a
+  gone : kept v a ≡ writtenIn v n ++ kept freed a
   gone =
-      freed-kept less (h .inside, h .held) (freed-not-held h) refl (serial-given v a (h .low) facts ready n (h .inside, h .held))
+      freed-kept less (h .inside, h .held) (freed-not-held h) refl (serial-given v a (h .low) facts n (h .inside, h .held))
       (facts .unique a (serialAt v n) (h .low))
       (λ m x. o .least m (x .0) (rw (x .1, all-closed m x .0)))
 
@@ -338,8 +339,8 @@ module _ {a n : ℕ} {xs : List ℕ} {v : Drive} (facts : Facts v) (ready : Read
         let y = before-too m x in
         let same-holding : holdingAt freed m ≡ holdingAt v m = ap (λ (b : Block). seenOf b (entriesOf freed m)) (y .1) in
         subst (λ (z : Holding). Stands (domainAt (v .table) a .last) per z) (sym same-holding) (r .each m (y .0));
-    dropped = r .dropped ++ writtenIn v (some n);
-    all = r .all ∙ ap (λ (l : List ℕ). r .dropped ++ l) gone ∙ sym (append-assoc (r .dropped) (writtenIn v (some n)) (kept freed a));
+    dropped = r .dropped ++ writtenIn v n;
+    all = r .all ∙ ap (λ (l : List ℕ). r .dropped ++ l) gone ∙ sym (append-assoc (r .dropped) (writtenIn v n) (kept freed a));
     enough = λ some-dropped.
         let few : domainAt (v .table) a .quota - 1 ≤ heldCount (freed .table) a = omega (arith, full, one-gone) in
         omega (arith, left-kept, mul-le-mul-right per few);
@@ -378,7 +379,7 @@ module _ (a : ℕ) (v w : Drive) (config : w .table .config ≡ v .table .config
       (λ h. rw (h, holders n l ∙ h))
 
   ticked-to : (up-to : ℕ) → keptTo v a up-to ≡ keptTo w a up-to
-  unfolding keptTo
+  unfolding bySerialTo
   ticked-to zero = refl
   ticked-to (suc serial) =
       ap₂ (λ (l r : List ℕ). l ++ r) (ticked-to serial)
