@@ -37,7 +37,7 @@ use Rattle.rules.proofs.Kept.Calls.{Course, course-step}
 use Rattle.rules.proofs.Laws.{always-answered, questions-in-order, start-accepted}
 use Rattle.rules.proofs.Noninterference.Moments.{begun-course}
 use Rattle.rules.specs.Blocks.{erasedBlock}
-use Rattle.rules.specs.Calls.{Asked, BytesDue, Call, append, callingFor, command, latest, lendingFor, noBytes, profileOf}
+use Rattle.rules.specs.Calls.{Asked, Call, append, callingFor, command, latest, lendingFor, noBytes, profileOf}
 use Rattle.rules.specs.Claims.{rising}
 use Rattle.rules.specs.Counting.{allTo}
 use Rattle.rules.specs.Drive.{Drive, overwritten}

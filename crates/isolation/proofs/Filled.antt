@@ -1,7 +1,7 @@
 -- An accepted call fills as many words and bytes as are due, a refused one none.
 use Prim.Native.Nat.{ℕ}
-use mathlib.Core.Bool.{Bool, true, false, cond}
-use mathlib.Core.List.{List, []}
+use mathlib.Core.Bool.{false, cond}
+use mathlib.Core.List.{[]}
 use mathlib.Core.Option.{Option, none, some}
 use mathlib.Core.Path.{_≡_, refl, sym, ap, _∙_}
 use lib.ListN.{length}
@@ -17,7 +17,7 @@ use Rattle.rules.proofs.Kept.Calls.{Course}
 use Rattle.rules.proofs.Laws.{block-words, read-words}
 use Rattle.rules.proofs.Questions.{answered-yes}
 use Rattle.rules.specs.Blocks.{erasedBlock}
-use Rattle.rules.specs.Calls.{Asked, BytesDue, Call, _asking_, _for_, append, command, latest, profile, profileOf, wordCount}
+use Rattle.rules.specs.Calls.{Asked, Call, _asking_, _for_, append, command, latest, profile, profileOf, wordCount}
 use Rattle.rules.specs.Drive.{Drive}
 use Rattle.rules.specs.Effects.{accepted, byteCount, bytesFilled, effect, erasing, questions, verdict, wordsFilled}
 

@@ -1,12 +1,11 @@
 -- What the marks tell of the listed blocks: each of them, by rising serial.
-use Prim.Native.Nat.{ℕ, zero, suc, _+_, _*_, _/_, _%_, _≤_, _<_, min}
-use mathlib.Core.Bool.{Bool, true, false, _&&_, cond}
+use Prim.Native.Nat.{ℕ, zero, suc, _+_, _*_, _≤_, _<_}
+use mathlib.Core.Bool.{Bool, true}
 use mathlib.Core.List.{List, [], _∷_, _++_, append-assoc, append-nil, map, map-append}
 use mathlib.Core.Option.{Option, none, some}
 use mathlib.Core.Path.{_≡_, refl, sym, ap, ap₂, _∙_, subst}
 use native.Mathlib.Nat.{zero-add}
 use native.Mathlib.Omega.{arith}
-use lib.Dec.{ltb}
 use lib.ListN.{List·getD-append, drop, getD, length, length-append, length-map, length-set, replicate, set, take}
 use lib.Seq.{getD-at, set-at, take-append-seam}
 use borrow.Author.Tests.{lt-ltb}
@@ -25,9 +24,8 @@ use Rattle.rules.proofs.Kept.Tested.{facts-of}
 use Rattle.rules.proofs.LogPages.{listed-only}
 use Rattle.rules.proofs.Serials.{WithSerial, serial-found}
 use Rattle.rules.proofs.Soundness.{apart}
-use Rattle.rules.specs.Drive.{Drive, blockAt, blockWith, bySerial, bySerialTo, clearBlock, domainAt, heldBy, isClosed, size, toldOf}
-use Rattle.rules.specs.LogPages.{ifListed, integrity, isListed, listMark, listedBlocks, stateByte, wearIndex}
-use Rattle.rules.specs.Observation.{serialAt}
+use Rattle.rules.specs.Drive.{Drive, blockAt, blockWith, bySerialTo, clearBlock, domainAt, heldBy, isClosed, size, toldOf}
+use Rattle.rules.specs.LogPages.{ifListed, isListed, listMark, listedBlocks, stateByte, wearIndex}
 use Rattle.rules.specs.Soundness.{sound}
 use Rattle.scan.proofs.Marking.{other-mark, set-mark}
 use Rattle.scan.proofs.Summaries.{Present, all-there}

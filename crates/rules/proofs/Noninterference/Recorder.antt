@@ -1,7 +1,7 @@
 -- The same append, and the same reading, in two drives that the domain cannot tell apart.
 use Prim.Native.Nat.{ℕ, _<_}
-use mathlib.Core.Bool.{true, false, true≢false, _&&_}
-use mathlib.Core.List.{List, []}
+use mathlib.Core.Bool.{true, true≢false, _&&_}
+use mathlib.Core.List.{List}
 use mathlib.Core.Option.{Option, none, some}
 use mathlib.Core.Path.{_≡_, refl, sym, ap, _∙_}
 use native.Mathlib.Omega.{arith}

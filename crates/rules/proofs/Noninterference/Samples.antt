@@ -4,27 +4,23 @@ use mathlib.Core.Bool.{Bool, true, false, true≢false, _&&_, cond}
 use mathlib.Core.List.{List, [], _++_, append-assoc, append-nil}
 use mathlib.Core.Option.{Option, none, some}
 use mathlib.Core.Path.{_≡_, refl, sym, ap, ap₂, _∙_, subst}
-use native.Mathlib.Numerals.{add-one}
 use native.Mathlib.Omega.{arith}
 use lib.Dec.{eqb, leb, ltb}
 use lib.ListN.{drop, length, length-append, length-take, take}
 use lib.Seq.{take-append-seam}
-use borrow.Author.Tests.{eq-eqb, eqb-true, le-leb, leb-false, leb-true, lt-leb, ltb-false, ltb-true, ne-eqb}
+use borrow.Author.Tests.{eq-eqb, le-leb, lt-leb, ltb-false, ltb-true, ne-eqb}
 use Rattle.geometry.proofs.Laws.Shape.{both, by-test}
 use Rattle.geometry.specs.declared.shape.Config.{Config}
 use Rattle.model.specs.declared.block.Block.{Block}
 use Rattle.model.specs.declared.table.Domain.{Domain}
 use Rattle.model.specs.declared.table.Table.{Table}
 use Rattle.rules.specs.Claims.{KeptAt, writtenWhere}
-use Rattle.rules.specs.Counting.{sumTo}
 use Rattle.rules.specs.Drive.{Drive, blockAt, blockWith, blockWithTo, bySerialTo, domainAt, heldBy, overwritten, size, toldOf}
 use Rattle.rules.specs.Observation.{Holding, Holds, SameHoldings, serialAt}
 use Rattle.rules.specs.Recorder.{kept, writtenIn}
-use Rattle.rules.proofs.Blocks.{below-next}
-use Rattle.rules.proofs.Counting.{by-eq, sum-same, sum-swap, sum-term-alone, sum-zero}
+use Rattle.rules.proofs.Counting.{by-eq, sum-same}
 use Rattle.rules.proofs.Kept.Entries.{entries-length}
 use Rattle.rules.proofs.Kept.Facts.{Facts, written-most}
-use Rattle.rules.proofs.Kept.OneBlock.{held-owned}
 use Rattle.rules.proofs.Kept.Views.{Changed, ifSerial, view, weight}
 use Rattle.rules.proofs.Noninterference.Pairing.{one-block}
 use Rattle.rules.proofs.Serials.{WithSerial, by-serial-at, by-serial-counted, by-serial-counted-to, by-serial-last, found-is, found-none, serial-found, serial-given, told-alike}

@@ -4,8 +4,6 @@ use mathlib.Core.Path.{refl}
 use borrow.Author.Needs.{needs}
 use Rattle.log_pages.proofs.lists.listed_count.Statement.{statement}
 use Rattle.log_pages.proofs.lists.listed_count.Tie as tie
-use Rattle.log_pages.proofs.lists.listed_count.Reads as reads
-use Rattle.log_pages.proofs.lists.listed_count.Lts as lts
 
 enum-told : tie.Need-enum-told
 enum-told c = search needs

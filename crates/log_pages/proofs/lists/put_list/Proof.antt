@@ -4,12 +4,6 @@ use native.Mathlib.Omega.{arith}
 use Rattle.log_pages.proofs.Listing.{Begun, begun, one-more, whole-list}
 use Rattle.log_pages.proofs.lists.put_list.Statement.{statement}
 use Rattle.log_pages.proofs.lists.put_list.Tie as tie
-use Rattle.log_pages.proofs.lists.put_list.Reads as reads
-use Rattle.log_pages.proofs.lists.put_list.Lts as lts
-use Rattle.log_pages.proofs.lists.put_descriptor.Reads as put-descriptor-reads
-use Rattle.scan.proofs.byte_told.Reads as byte-told-reads
-use Rattle.scan.proofs.index_told.Reads as index-told-reads
-use Rattle.scan.proofs.number_told.Reads as number-told-reads
 
 abbrev Inv-loop : tie.InvT-loop
 Inv-loop bytes₀ marks count i₀ bytes i = Begun marks count i bytes₀ bytes

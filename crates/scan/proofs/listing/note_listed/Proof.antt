@@ -4,10 +4,6 @@ use borrow.Author.Tests.{le-ltb, lt-ltb}
 use Rattle.scan.specs.Listing.{keysNoted, notedWith}
 use Rattle.scan.proofs.listing.note_listed.Statement.{statement}
 use Rattle.scan.proofs.listing.note_listed.Tie as tie
-use Rattle.scan.proofs.listing.note_listed.Reads as reads
-use Rattle.scan.proofs.listing.note_listed.Lts as lts
-use Rattle.scan.proofs.listing.is_listed.Reads as is-listed-reads
-use Rattle.scan.proofs.listing.list_key.Reads as list-key-reads
 
 is-listed-requires : tie.Need-is-listed-requires
 is-listed-requires c κs = search needs

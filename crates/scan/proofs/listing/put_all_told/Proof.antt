@@ -6,9 +6,6 @@ use Rattle.scan.specs.Listing.{toldTo}
 use Rattle.scan.proofs.Telling.{told-more, with-long}
 use Rattle.scan.proofs.listing.put_all_told.Statement.{statement}
 use Rattle.scan.proofs.listing.put_all_told.Tie as tie
-use Rattle.scan.proofs.listing.put_all_told.Reads as reads
-use Rattle.scan.proofs.listing.put_all_told.Lts as lts
-use Rattle.scan.proofs.listing.put_told.Reads as put-told-reads
 
 abbrev Inv-loop : tie.InvT-loop
 Inv-loop marks₀ keys count i₀ marks i = (i ≤ count) × (length marks ≡ length marks₀) × (marks ≡ toldTo keys i marks₀)

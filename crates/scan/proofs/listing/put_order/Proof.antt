@@ -8,11 +8,6 @@ use Rattle.sorting.specs.Order.{inOrder}
 use Rattle.scan.specs.Listing.{gatheredCount, keysInOrder, keysNoted, orderOf, toldTo}
 use Rattle.scan.proofs.listing.put_order.Statement.{statement}
 use Rattle.scan.proofs.listing.put_order.Tie as tie
-use Rattle.scan.proofs.listing.put_order.Reads as reads
-use Rattle.scan.proofs.listing.put_order.Lts as lts
-use Rattle.scan.proofs.listing.gathered_count.Reads as gathered-count-reads
-use Rattle.scan.proofs.listing.put_all_told.Reads as put-all-told-reads
-use Rattle.sorting.proofs.sort.Reads as sort-reads
 
 slice-read-gathered-count : tie.Need-slice-read-gathered-count
 slice-read-gathered-count c = search needs

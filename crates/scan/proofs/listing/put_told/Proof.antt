@@ -4,8 +4,6 @@ use lib.ListN.{length-set, set}
 use borrow.Author.Needs.{needs}
 use Rattle.scan.proofs.listing.put_told.Statement.{statement}
 use Rattle.scan.proofs.listing.put_told.Tie as tie
-use Rattle.scan.proofs.listing.put_told.Reads as reads
-use Rattle.scan.proofs.listing.put_told.Lts as lts
 
 cast-marks : tie.Need-cast-marks
 cast-marks c = search needs
