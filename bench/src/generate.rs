@@ -29,14 +29,20 @@ pub fn config(random: &mut Random) -> Config {
             planes: any_factor(random),
             adus: any_factor(random),
             blocks: random.between(1, most_blocks),
-            rated: random.pick(&[50, 65_535]),
+            rated: any_rated(random),
             period: random.pick(&[99, 65_535]),
         };
         if config.within_limits() && config.store_entries() <= most_entries {
-            let rated = random.between(1, config.rated);
-            return Config { rated, period: random.between(1, config.period), ..config };
+            return Config { period: random.between(1, config.period), ..config };
         }
     }
+}
+
+/// Often a multiple of 16, without which no P/E index comes from an exact half, or one of 400, with
+/// which all halves are there.
+fn any_rated(random: &mut Random) -> u64 {
+    let (step, most) = random.pick(&[(1, 50), (1, 50), (1, 65_535), (16, 25), (400, 163)]);
+    step * random.between(1, most)
 }
 
 fn any_pages(random: &mut Random) -> u64 {
@@ -121,10 +127,7 @@ pub fn command(random: &mut Random, table: &Table, store: &[u64]) -> Command {
         6 => drive.write_by_placement(random),
         7 => drive.write_by_block(random),
         8 => drive.read(random),
-        9 => {
-            let (domain, block) = drive.block(random, is_held);
-            Command::Page { domain, block }
-        }
+        9 => drive.page(random),
         10 => drive.list(random),
         _ => Command::Pulse {
             seconds: wild(random, &[65_536], |random| match random.below(8) {
@@ -137,9 +140,14 @@ pub fn command(random: &mut Random, table: &Table, store: &[u64]) -> Command {
     }
 }
 
-/// A List for this table.
-pub fn list(random: &mut Random, table: &Table) -> Command {
-    View { table, store: &[] }.list(random)
+/// A Page or a List for this table.
+pub fn log_page(random: &mut Random, table: &Table) -> Command {
+    let drive = View { table, store: &[] };
+    if random.chance(33) {
+        drive.page(random)
+    } else {
+        drive.list(random)
+    }
 }
 
 /// A command, or a call of the recorder's, for this table and store. Some commands are there to
@@ -283,6 +291,11 @@ impl View<'_> {
         };
         let block = wild(random, &[self.table.config.blocks, ANY_BLOCK], |_| block);
         (domain, block)
+    }
+
+    fn page(&self, random: &mut Random) -> Command {
+        let (domain, block) = self.block(random, is_held);
+        Command::Page { domain, block }
     }
 
     /// Mostly of a domain that has blocks to be listed, and rather of one that has many.
@@ -510,13 +523,24 @@ fn plant_last_serials(random: &mut Random, table: &mut Table) {
 
 fn plant_wear(random: &mut Random, table: &mut Table) {
     let around = random.pick(&[0, 3, 1_000, u32::MAX - 2, u32::MAX]);
+    let rated = table.config.rated;
     for block in present(table) {
-        block.erases = match random.below(3) {
+        block.erases = match random.below(6) {
             0 => around,
             1 => around.saturating_add(random.below(3) as u32),
+            2 | 3 => near_half(random, rated),
             _ => block.erases,
         };
     }
+}
+
+/// The least count that is rounded up to some index, or one beside it. 12.5 is the first half that
+/// all multiples of 16 have; 256 is beyond the cap.
+fn near_half(random: &mut Random, rated: u64) -> u32 {
+    let any = random.between(1, 256);
+    let index = random.pick(&[1, 13, 255, 256, any]);
+    let least = ((2 * index - 1) * rated).div_ceil(400);
+    (least + random.pick(&[0, 1, 1, 2]) - 1) as u32
 }
 
 fn plant_wear_of_free(random: &mut Random, table: &mut Table) {
@@ -528,7 +552,8 @@ fn plant_wear_of_free(random: &mut Random, table: &mut Table) {
 }
 
 /// Serials of each domain one after the other, equal modulo 256 and so on, or anywhere, up to the
-/// last of all; mostly they come in another order than the numbers of their blocks.
+/// last of all or on both sides of the highest bit; mostly they come in another order than the
+/// numbers of their blocks.
 fn plant_serials(random: &mut Random, table: &mut Table) {
     let step = random.pick(&[1, 16, 32, 256, 512, 65_536, 1 << 23, MOST_APART]);
     let first = random.between(1, 300) as u32;
@@ -545,7 +570,11 @@ fn plant_serials(random: &mut Random, table: &mut Table) {
             })
             .collect();
         let greatest = serials.last().copied().unwrap_or(0);
-        let shift = if random.chance(10) { u32::MAX - greatest } else { 0 };
+        let shift = match random.below(10) {
+            0 => u32::MAX - greatest,
+            1 => (1 << 31) - greatest / 2,
+            _ => 0,
+        };
         if shuffled {
             random.shuffle(&mut serials);
         }

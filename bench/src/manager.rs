@@ -1,5 +1,5 @@
 //! The super block manager of a shared drive, read from document 01; lists have the order of Wish 2
-//! of document 02.
+//! of document 02, and the P/E index is rounded by its Wish 3.
 //!
 //! `Table::start` and `Table::serve` answer every input: the first question of 01 that is answered
 //! no gives its number, and then table, store and outputs stay as they were.
@@ -223,9 +223,9 @@ impl Config {
         planes.div_ceil(self.planes_in_block()) as u32
     }
 
-    /// P/E index: count × 200 / N rounded down, at most 255.
+    /// P/E index: count × 200 / N to the nearest whole, halves up, then at most 255.
     fn wear_index(&self, erases: u32) -> u8 {
-        (u64::from(erases) * 200 / self.rated).min(255) as u8
+        ((u64::from(erases) * 400 + self.rated) / (2 * self.rated)).min(255) as u8
     }
 }
 

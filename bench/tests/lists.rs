@@ -1,4 +1,5 @@
-//! The order of lists by the sentences of Wish 2 of document 02, and against a plain reading.
+//! The order of lists by the sentences of Wish 2 of document 02, and against a plain reading, which
+//! has the index of Wish 3.
 
 mod common;
 
@@ -386,12 +387,42 @@ fn plain_list(table: &Table, domain: u64, of: Listed, bytes: &mut [u8]) -> Answe
             State::Open(Way::Placement(_)) => 0x04,
             _ => 1,
         };
-        let index = (u64::from(block.erases) * 200 / table.config.rated).min(255);
-        bytes[at..at + 8].copy_from_slice(&[number as u8, 0, 0, 0, index as u8, byte, 0, 0]);
+        let index = plain_index(block.erases, table.config.rated);
+        bytes[at..at + 8].copy_from_slice(&[number as u8, 0, 0, 0, index, byte, 0, 0]);
         at += 8;
     }
     bytes[at..at + 8].copy_from_slice(&END);
     Done
+}
+
+/// Of all indices the nearest to count × 200 / N, and of two as near the larger.
+fn plain_index(erases: u32, rated: u64) -> u8 {
+    let distance = |index: u8| (2 * u64::from(index) * rated).abs_diff(400 * u64::from(erases));
+    (0..=255).rev().min_by_key(|&index| distance(index)).expect("256 of them")
+}
+
+#[test]
+fn indices_agree_with_a_plain_reading() {
+    for rated in [
+        1, 2, 3, 7, 15, 16, 17, 32, 50, 99, 127, 128, 199, 200, 201, 256, 399, 400, 401, 511, 600,
+        1_000, 4_096, 30_000, 50_000, 65_520, 65_534, 65_535,
+    ] {
+        let mut drive = Drive::start(Config { blocks: 1, rated, ..SMALL });
+        assert_eq!(drive.create(1, 0, 128, 1, 1), Done);
+        assert_eq!(drive.erase(1, 0), AnswerBlock(0));
+        // Beside the small counts those around the halves, and the last.
+        let halves = [1, 2, 3, 25, 75, 199, 401, 509, 511, 513].map(|half| half * rated / 400);
+        let around = halves.into_iter().flat_map(|half| half.saturating_sub(1)..=half + 2);
+        let last = [1 << 31, u64::from(u32::MAX) - 1, u64::from(u32::MAX)];
+        for erases in (0..=600).chain(around).chain(last).map(|count| count as u32) {
+            drive.table.blocks[0].erases = erases;
+            let wanted = plain_index(erases, rated);
+            assert_eq!(drive.page(1, 0), Done);
+            assert_eq!(drive.bytes[12], wanted, "{erases} of {rated}");
+            assert_eq!(drive.list(1, Listed::Open), Done);
+            assert_eq!(drive.bytes[4], wanted, "{erases} of {rated}");
+        }
+    }
 }
 
 #[test]

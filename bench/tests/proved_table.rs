@@ -89,8 +89,11 @@ fn p9_no_user_address_is_all_ones() {
 }
 
 #[test]
-fn p10_the_wear_index_is_rounded_down_and_at_most_255() {
-    for (erases, index) in [(7, 1), (4, 0), (5, 1), (1_277, 255), (1_300, 255), (u32::MAX, 255)] {
+fn p10_the_wear_index_is_to_the_nearest_and_at_most_255() {
+    // P10 has 7, 1,277 and 1,300. Rounded down, 3, 8 and 1,273 would have one less.
+    let near_0 = [(2, 0), (3, 1), (7, 1), (8, 2)];
+    let near_255 = [(1_272, 254), (1_273, 255), (1_277, 255), (1_278, 255), (1_300, 255)];
+    for (erases, index) in near_0.into_iter().chain(near_255).chain([(u32::MAX, 255)]) {
         let mut drive = small_with_domain_1();
         assert_eq!(drive.erase(1, 0), AnswerBlock(0));
         drive.table.blocks[0].erases = erases;

@@ -544,6 +544,53 @@ fn a_list_has_a_descriptor_for_each_block_and_an_end_mark() {
     assert_eq!(drive.list(2, Listed::Closed), Refused(7));
 }
 
+/// A block's index by Page and by the list that has it, first open and then Closed.
+fn told_indices(rated: u64, erases: u32) -> [[u8; 2]; 2] {
+    let mut drive = Drive::start(Config { rated, ..SMALL });
+    assert_eq!(drive.create(1, 0, 128, 1, 1), Done);
+    assert_eq!(drive.erase(1, 0), AnswerBlock(0));
+    drive.table.blocks[0].erases = erases;
+    [Listed::Open, Listed::Closed].map(|listed| {
+        assert_eq!(drive.page(1, 0), Done);
+        let by_page = drive.bytes[12];
+        assert_eq!(drive.list(1, listed), Done);
+        let by_list = drive.bytes[4];
+        assert_eq!(drive.close(1, 0), AnswerBlock(0));
+        [by_page, by_list]
+    })
+}
+
+/// Wish 3 of document 02.
+#[test]
+fn the_wear_index_is_to_the_nearest_halves_up_and_at_most_255() {
+    for (rated, indices) in [
+        // 0.5, 1.5, 254.5, 255.5 and 256.5 are exact.
+        (400, &[(0, 0), (1, 1), (2, 1), (3, 2), (4, 2)][..]),
+        (400, &[(508, 254), (509, 255), (510, 255), (511, 255), (512, 255), (513, 255)]),
+        // Just below a half, at it, and just above.
+        (50_000, &[(124, 0), (125, 1), (126, 1), (374, 1), (375, 2), (376, 2)]),
+        (50_000, &[(63_624, 254), (63_625, 255), (63_626, 255)]),
+        (50_000, &[(63_874, 255), (63_875, 255), (63_876, 255), (64_000, 255)]),
+        // The ends of N. With the last none is a half; 18.50004 and 21.49996 come nearest.
+        (1, &[(0, 0), (1, 200), (2, 255), (u32::MAX, 255)]),
+        (65_535, &[(0, 0), (163, 0), (164, 1), (6_062, 19), (7_045, 21), (65_535, 200)]),
+        (65_535, &[(83_393, 254), (83_394, 255), (83_721, 255), (83_886, 255), (u32::MAX, 255)]),
+    ] {
+        for &(erases, index) in indices {
+            assert_eq!(told_indices(rated, erases), [[index; 2]; 2], "{erases} of {rated}");
+        }
+    }
+    // By as many erases.
+    let mut drive = Drive::start(Config { rated: 400, ..SMALL });
+    assert_eq!(drive.create(1, 0, 128, 1, 1), Done);
+    for index in [1, 1, 2, 2, 3] {
+        assert_eq!(drive.erase(1, 0), AnswerBlock(0));
+        assert_eq!(drive.page(1, 0), Done);
+        assert_eq!(drive.bytes[12], index);
+        assert_eq!(drive.close(1, 0), AnswerBlock(0));
+    }
+}
+
 // The questions' order.
 
 #[test]

@@ -1,8 +1,9 @@
 //! Runs scripts of commands and holds the answers against the wanted ones.
 //!
 //! The first is that which the program `drive` is run on, its standard input and what it is to
-//! print. The others have the recorder's calls among the commands; the last is made for the order
-//! of lists. The answers given are left in the tests' temporary folder.
+//! print. The others have the recorder's calls among the commands; the last two are made for the
+//! order of lists and for the P/E index to the nearest. The answers given are left in the tests'
+//! temporary folder.
 
 use bench::manager::{
     make_address, take_apart, Answer, Command, Config, Elements, Listed, Table, ANY_BLOCK,
@@ -220,6 +221,11 @@ fn vectors_of_the_recorder_are_answered_as_wanted() {
 #[test]
 fn vectors_of_the_lists_order_are_answered_as_wanted() {
     compare("tests/wish2.script", "tests/wish2.answers", "wish2.answers");
+}
+
+#[test]
+fn vectors_of_the_index_to_the_nearest_are_answered_as_wanted() {
+    compare("tests/wish3.script", "tests/wish3.answers", "wish3.answers");
 }
 
 /// Answers a script, keeps what was given under a name, and holds it against the wanted answers.

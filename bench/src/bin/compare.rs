@@ -123,7 +123,7 @@ struct Counts {
     planted: u64,
     /// Drives that were started, by their number of blocks.
     drives: [u64; SIZES.len()],
-    /// Successful lists and calls of the recorder, by what they met.
+    /// Successful Pages, lists and calls of the recorder, by what they met.
     met: [u64; MEETINGS.len()],
 }
 
@@ -132,8 +132,8 @@ const SIZES: [u64; 5] = [1, 8, 32, 128, 256];
 
 const START: usize = KINDS;
 
-/// What a successful List or call of the recorder can meet.
-const MEETINGS: [&str; 10] = [
+/// What a successful Page, List or call of the recorder can meet.
+const MEETINGS: [&str; 14] = [
     "List open of blocks not in the order of their numbers",
     "List open of more than 32 blocks, not in the order of their numbers",
     "List closed of blocks not in the order of their numbers",
@@ -144,6 +144,10 @@ const MEETINGS: [&str; 10] = [
     "Latest from blocks not in the order of their numbers",
     "Latest from a Closed block that is not full",
     "Latest from a block opened by Erase",
+    "Page with an index from an exact half",
+    "Page with an index that goes up to 256 before the cap",
+    "List with an index from an exact half",
+    "List with an index that goes up to 256 before the cap",
 ];
 
 /// The refusals that a kind can meet.
@@ -256,6 +260,11 @@ fn met(call: &Call, before: &Table, after: &Table) -> [bool; MEETINGS.len()] {
             let turned = !blocks.is_sorted_by_key(|block| block.serial);
             let first = if listed == Listed::Open { 0 } else { 2 };
             met[first..first + 2].copy_from_slice(&[turned, turned && blocks.len() > 32]);
+            met[12..].copy_from_slice(&roundings(&before.config, &blocks));
+        }
+        Call::Command(Command::Page { block, .. }) => {
+            let block = &before.blocks[block as usize];
+            met[10..12].copy_from_slice(&roundings(&before.config, &[block]));
         }
         Call::Command(_) => {}
         Call::Append { domain, .. } => {
@@ -276,10 +285,19 @@ fn met(call: &Call, before: &Table, after: &Table) -> [bool; MEETINGS.len()] {
             let erased = sources.iter().any(|(_, block)| {
                 matches!(block.state, State::Open(Way::Erase) | State::Closed(Way::Erase))
             });
-            met[6..].copy_from_slice(&[sources.len() > 1, turned, partly, erased]);
+            met[6..10].copy_from_slice(&[sources.len() > 1, turned, partly, erased]);
         }
     }
     met
+}
+
+/// Whether a P/E index of these blocks comes from an exact half, and whether one comes from 255.5
+/// or more but less than 256.
+fn roundings(config: &Config, blocks: &[&Block]) -> [bool; 2] {
+    let rated = config.rated;
+    let mut doubled = blocks.iter().map(|block| u64::from(block.erases) * 400);
+    let half = doubled.clone().any(|doubled| doubled % (2 * rated) == rated);
+    [half, doubled.any(|doubled| doubled / rated == 511)]
 }
 
 /// The blocks that a list tells of, by their numbers; the table may be any.
@@ -378,7 +396,7 @@ impl<O: Other> Trial<O> {
                     0 if !wrong => self.plant(generate::plant),
                     1..=9 => self.serve_damaged()?,
                     10 | 11 if !wrong => self.plant(generate::plant_recorder),
-                    12 | 13 if !wrong => self.serve_lists()?,
+                    12..=14 if !wrong => self.serve_log_pages()?,
                     _ => {
                         let call = generate::call(&mut self.random, &self.table, &self.mine.store);
                         self.serve(call)?;
@@ -430,12 +448,12 @@ impl<O: Other> Trial<O> {
         Ok(())
     }
 
-    /// Some lists on a table of another drive.
-    fn serve_lists(&mut self) -> Result<(), String> {
+    /// Some Pages and lists on a table of another drive.
+    fn serve_log_pages(&mut self) -> Result<(), String> {
         let table = generate::full_table(&mut self.random);
         assert!(table.is_sound(), "a full table is sound");
         self.counts.planted += 1;
-        self.serve_aside(table, |random, table, _| generate::list(random, table).into())
+        self.serve_aside(table, |random, table, _| generate::log_page(random, table).into())
     }
 
     /// Some commands on another table, after which the drive goes on with its own.
@@ -482,7 +500,9 @@ impl<O: Other> Trial<O> {
         );
         self.counts.count(words[0] as usize, answer_number(answer));
         let can_meet = match call {
-            Call::Command(command) => matches!(command, Command::List { .. }),
+            Call::Command(command) => {
+                matches!(command, Command::Page { .. } | Command::List { .. })
+            }
             Call::Append { .. } | Call::Latest { .. } => true,
         };
         if answer == Answer::Done && can_meet {
@@ -842,6 +862,65 @@ mod tests {
         }
         // One that leaves the lists as they are is not.
         assert!(!is_found(lister(Listed::Open, |_, _| ())));
+    }
+
+    /// A P/E index by count and N, of which the low byte is told.
+    type Index = fn(u64, u64) -> u64;
+
+    fn index_of(index: Index, table: &Table, number: usize) -> u8 {
+        index(table.blocks[number].erases.into(), table.config.rated) as u8
+    }
+
+    /// Tells another index in Pages.
+    fn page_index(index: Index) -> impl FnMut(Left) {
+        move |left: Left| match left.call {
+            Call::Command(Command::Page { block, .. }) if *left.answer == Answer::Done => {
+                left.bytes[12] = index_of(index, left.before, block as usize);
+            }
+            _ => {}
+        }
+    }
+
+    /// Tells another index in lists.
+    fn list_index(of: Listed, index: Index) -> impl FnMut(Left) {
+        lister(of, move |list, table| {
+            for one in list {
+                one[4] = index_of(index, table, one[0].into());
+            }
+        })
+    }
+
+    #[test]
+    fn impostors_of_the_wear_index_are_found() {
+        fn whole(count: u64, rated: u64) -> u64 {
+            count * 200 / rated
+        }
+        /// Twice what the whole leaves; N is a half.
+        fn rest(count: u64, rated: u64) -> u64 {
+            count * 200 % rated * 2
+        }
+        fn nearest(count: u64, rated: u64) -> u64 {
+            (whole(count, rated) + u64::from(rest(count, rated) >= rated)).min(255)
+        }
+        let indices: [(&str, Index); 4] = [
+            ("rounded down", |count, rated| whole(count, rated).min(255)),
+            ("halves down", |count, rated| {
+                (whole(count, rated) + u64::from(rest(count, rated) > rated)).min(255)
+            }),
+            ("capped before it is rounded", |count, rated| {
+                whole(count, rated).min(255) + u64::from(rest(count, rated) >= rated)
+            }),
+            ("of a rated count one larger", |count, rated| nearest(count, rated + 1)),
+        ];
+        for (name, index) in indices {
+            assert!(is_found(page_index(index)), "{name}, Page");
+            for of in [Listed::Open, Listed::Closed] {
+                assert!(is_found(list_index(of, index)), "{name}, {of:?}");
+            }
+        }
+        // Those that tell the nearest are not.
+        assert!(!is_found(page_index(nearest)));
+        assert!(!is_found(list_index(Listed::Closed, nearest)));
     }
 
     #[test]

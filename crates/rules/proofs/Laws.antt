@@ -22,11 +22,11 @@ use Rattle.model.specs.declared.command.Listed.{Listed}
 use Rattle.model.specs.declared.table.Table.{Table}
 use Rattle.rules.specs.Blocks.{allOnes, chosenBlock, stored, userAddress, userAddresses}
 use Rattle.rules.specs.Calls.{Call, _asking_, ownDomain}
-use Rattle.rules.specs.Claims.{Chosen, Found, Gone, Layout, ListsInOrder, Reached, Unchanged, rising}
+use Rattle.rules.specs.Claims.{Chosen, Found, Gone, IndexToTheNearest, Layout, ListsInOrder, Reached, Unchanged, rising}
 use Rattle.rules.specs.Domains.{changedDomain}
 use Rattle.rules.specs.Drive.{Drive, blockAt, capacity, domainAt, heldCount, isFree, isOpen, size}
 use Rattle.rules.specs.Effects.{Served, Serves, answerTo, bytesFilled, questions, step, verdict, wordsFilled}
-use Rattle.rules.specs.LogPages.{list, listLength, listedBlocks, page, pageFields}
+use Rattle.rules.specs.LogPages.{list, listLength, listedBlocks, page, pageFields, wearIndex}
 use Rattle.rules.specs.Soundness.{sound}
 use Rattle.rules.specs.Start.{emptyTable, started, tableOfZeros}
 use Rattle.rules.proofs.Blocks as blocks
@@ -99,6 +99,17 @@ pub lists-in-order : (t : Table) (d : ℕ) (which : Listed) → sound t ≡ true
 lists-in-order t d which is-sound id =
     let v : Drive = record { table = t; store = [] } in
     pages.lists-in-order v d (is-between 1 16 d id .least) (facts-of v is-sound) which
+
+-- 02, Wish 3: the P/E index is count × 200 / N to the nearest whole, halves up, and then capped at 255. So it is never above 255, and it
+-- never falls as the count rises.
+pub index-nearest : (rated erases : ℕ) → 0 < rated → IndexToTheNearest rated erases (wearIndex rated erases)
+index-nearest rated erases positive = pages.index-nearest rated erases positive
+
+pub index-most : (rated erases : ℕ) → wearIndex rated erases ≤ 255
+index-most rated erases = pages.index-most rated erases
+
+pub index-rises : (rated m n : ℕ) → m ≤ n → wearIndex rated m ≤ wearIndex rated n
+index-rises rated m n less = pages.index-rises rated m n less
 
 -- The chosen block is Free, has the least P/E count, and is the lowest of those; none is chosen only where none is Free, so
 -- that a freed block is given out like any other.

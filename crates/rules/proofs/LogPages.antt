@@ -1,13 +1,14 @@
--- The page's layout, the order of the listed blocks, and the lengths of what Page and List fill.
-use Prim.Native.Nat.{ℕ, zero, suc, _+_, _-_, _*_, _≤_, _<_}
+-- The page's layout, the P/E index, the order of the listed blocks, and the lengths of what Page and List fill.
+use Prim.Native.Nat.{ℕ, zero, suc, _+_, _-_, _*_, _%_, _≤_, _<_}
 use mathlib.Core.Bool.{cond}
 use mathlib.Core.List.{List, [], _∷_, _++_, append-nil}
 use mathlib.Core.Option.{Option, none, some}
 use mathlib.Core.Path.{_≡_, refl, sym, ap, _∙_, subst}
+use native.Mathlib.Nat.{add-mul, div-add-mod', div-eq-of-lt-le, div-mul-le-self, div-zero, le-div-iff-mul-le, mod-lt, mul-left-comm}
 use native.Mathlib.Omega.{arith}
-use lib.Dec.{ltb}
+use lib.Dec.{leb, ltb}
 use lib.ListN.{getD, length, length-append}
-use borrow.Author.Tests.{ltb-false, ltb-true}
+use borrow.Author.Tests.{leb-false, leb-true, ltb-false, ltb-true}
 use Rattle.geometry.proofs.Laws.Shape.{by-test}
 use Rattle.geometry.specs.Bytes.{littleEndian}
 use Rattle.geometry.specs.declared.shape.Config.{Config}
@@ -15,10 +16,10 @@ use Rattle.model.specs.declared.block.Block.{Block}
 use Rattle.model.specs.declared.command.Listed.{Listed}
 use Rattle.model.specs.declared.command.Listed.the-variants as listed
 use Rattle.model.specs.declared.table.Table.{Table}
-use Rattle.rules.specs.Claims.{Layout, ListedBlock, ListsInOrder}
+use Rattle.rules.specs.Claims.{IndexToTheNearest, Layout, ListedBlock, ListsInOrder, ToTheNearest, distance}
 use Rattle.rules.specs.Counting.{sumTo}
 use Rattle.rules.specs.Drive.{Drive, blockAt, blockWith, bySerialTo, closedCount, domainAt, heldBy, openCount, size, toldOf}
-use Rattle.rules.specs.LogPages.{bytesOf, ifListed, isListed, list, listLength, listOf, listedBlocks, listedCount, page, pageFields}
+use Rattle.rules.specs.LogPages.{bytesOf, ifListed, isListed, list, listLength, listOf, listedBlocks, listedCount, nearest, page, pageFields, wearIndex}
 use Rattle.rules.specs.Observation.{serialAt}
 use Rattle.rules.proofs.Counting.{sum-same}
 use Rattle.rules.proofs.Kept.Facts.{Facts}
@@ -32,6 +33,56 @@ pub page-layout : (c : Config) (n : ℕ) (b : Block) → Layout (pageFields c n 
 unfolding Layout page bytesOf littleEndian
 page-layout c n b =
     (refl, (refl, (refl, (refl, (refl, (refl, (refl, (refl, (refl, (refl, (refl, (refl, (refl, tt)))))))))))))
+
+-- ---- The P/E index
+
+-- i is n / d to the nearest whole where n / d is at least i - 1/2 and below i + 1/2.
+pub nearest-is : (n d i : ℕ) → 2 * (i * d) ≤ 2 * n + d → 2 * n < 2 * (i * d) + d → nearest n d ≡ i
+nearest-is n d i low high =
+    div-eq-of-lt-le (2 * d)
+    (omega (arith, low, mul-left-comm i 2 d))
+    (rw add-mul (omega (arith, high, mul-left-comm i 2 d)))
+
+-- So the number that is to the nearest is that one alone, ..
+is-nearest : (n d i : ℕ) → ToTheNearest n d i → nearest n d ≡ i
+is-nearest n d i t =
+    by-test (leb (i * d) n)
+    (λ e.
+    let below = leb-true (i * d) n e in
+    let no-half : ¬ (2 * distance (i * d) n ≡ d) = λ half. omega (arith, below, t .half-up half) in
+    nearest-is n d i (omega (arith, below)) (omega (arith, below, t .near, no-half)))
+    (λ e. nearest-is n d i (omega (arith, leb-false (i * d) n e, t .near)) (omega (arith, leb-false (i * d) n e)))
+
+-- .. and it is to the nearest.
+nearest-to : (n d : ℕ) → 0 < d → ToTheNearest n d (nearest n d)
+nearest-to n d l =
+    let i = nearest n d in
+    let whole : i * (2 * d) + (2 * n + d) % (2 * d) ≡ 2 * n + d = div-add-mod' (2 * n + d) (2 * d) in
+    let less : (2 * n + d) % (2 * d) < 2 * d = mod-lt (2 * n + d) (omega (arith, l)) in
+    record {
+      near = omega (arith, whole, less, mul-left-comm i 2 d);
+      half-up = λ e. omega (arith, whole, less, mul-left-comm i 2 d, e, l);
+    }
+
+pub index-nearest : (rated erases : ℕ) → 0 < rated → IndexToTheNearest rated erases (wearIndex rated erases)
+index-nearest rated erases l = record {
+  rounded = nearest (erases * 200) rated;
+  nearest = nearest-to (erases * 200) rated l;
+  alone = λ i is. sym (is-nearest (erases * 200) rated i is);
+  capped = refl;
+}
+
+pub index-most : (rated erases : ℕ) → wearIndex rated erases ≤ 255
+index-most rated erases = omega arith
+
+nearest-rises : (d m n : ℕ) → m ≤ n → nearest m d ≤ nearest n d
+nearest-rises zero m n l = simp div-zero (omega arith)
+nearest-rises (suc d) m n l =
+    le-div-iff-mul-le {k = 2 * suc d} {x = nearest m (suc d)} {y = 2 * n + suc d} (omega arith) .1
+    (omega (arith, l, div-mul-le-self (2 * m + suc d) (2 * suc d)))
+
+pub index-rises : (rated m n : ℕ) → m ≤ n → wearIndex rated m ≤ wearIndex rated n
+index-rises rated m n l = omega (arith, nearest-rises rated (m * 200) (n * 200) (omega (arith, l)))
 
 -- A list has 8 bytes for each block and for the end mark.
 list-bytes : (t : Table) (mark : Block → ℕ) (ns : List ℕ) → length (listOf t mark ns) ≡ 8 * (length ns + 1)

@@ -1,5 +1,5 @@
 -- What proofs/Laws.antt and proofs/Claims.antt say, where that takes a definition of its own.
-use Prim.Native.Nat.{ℕ, _+_, _≤_, _<_}
+use Prim.Native.Nat.{ℕ, _+_, _-_, _*_, _≤_, _<_, min}
 use mathlib.Core.Bool.{Bool, true, false, _&&_, cond}
 use mathlib.Core.List.{List, [], _∷_, _++_}
 use mathlib.Core.Path.{_≡_}
@@ -104,6 +104,23 @@ unfoldable pub Layout : List Field → List ℕ → Type 0
 Layout [] bytes = Unit {0}
 Layout (f ∷ fs) bytes =
     (bytesAt (f .place) (f .width) bytes ≡ littleEndian (f .width) (f .value)) × Layout fs bytes
+
+-- How far apart two numbers are.
+abbrev pub distance : ℕ → ℕ → ℕ
+distance m n = (m - n) + (n - m)
+
+-- i is n / d to the nearest whole, halves up: twice the distance between i and n / d is at most 1, and where it is 1, i lies above. Here
+-- with both sides times d.
+pub record ToTheNearest (n d i : ℕ) : Type 0 where
+  pub near : 2 * distance (i * d) n ≤ d
+  pub half-up : 2 * distance (i * d) n ≡ d → n < i * d
+
+-- 02, Wish 3: the P/E index is count × 200 / N to the nearest whole, halves up, which is one number alone, and that is then capped at 255.
+pub record IndexToTheNearest (rated erases index : ℕ) : Type 0 where
+  pub rounded : ℕ
+  pub nearest : ToTheNearest (erases * 200) rated rounded
+  pub alone : (i : ℕ) → ToTheNearest (erases * 200) rated i → i ≡ rounded
+  pub capped : index ≡ min rounded 255
 
 -- Covered means that the coverage rule holds; no quota is passed when no domain holds more blocks than its quota.
 pub record Guaranteed (t : Table) : Type 0 where

@@ -33,9 +33,13 @@ placementField Free = 65535
 placementField (Open way) = placementOf way
 placementField (Closed way) = placementOf way
 
--- P/E index is count × 200 / N rounded down, at most 255.
+-- n / d to the nearest whole, halves up.
+abbrev pub nearest : ℕ → ℕ → ℕ
+nearest n d = (2 * n + d) / (2 * d)
+
+-- P/E index (02, Wish 3): count × 200 / N to the nearest whole, halves up, and then at most 255.
 abbrev pub wearIndex : ℕ → ℕ → ℕ
-wearIndex rated erases = min (erases * 200 / rated) 255
+wearIndex rated erases = min (nearest (erases * 200) rated) 255
 
 -- Integrity is 1 if Closed, else 0.
 abbrev pub integrity : Block → ℕ
