@@ -4,7 +4,7 @@ use mathlib.Core.Bool.{cond}
 use mathlib.Core.List.{List, [], _∷_, _++_, append-nil}
 use mathlib.Core.Option.{Option, none, some}
 use mathlib.Core.Path.{_≡_, refl, sym, ap, _∙_, subst}
-use native.Mathlib.Nat.{add-mul, div-add-mod', div-eq-of-lt-le, div-mul-le-self, div-zero, le-div-iff-mul-le, mod-lt, mul-left-comm}
+use native.Mathlib.Nat.{add-mul, div-add-mod', div-eq-of-lt-le, div-mul-le-self, div-zero, le-div-iff-mul-le, mod-eq-of-lt, mod-lt, mul-left-comm}
 use native.Mathlib.Omega.{arith}
 use lib.Dec.{leb, ltb}
 use lib.ListN.{getD, length, length-append}
@@ -16,10 +16,10 @@ use Rattle.model.specs.declared.block.Block.{Block}
 use Rattle.model.specs.declared.command.Listed.{Listed}
 use Rattle.model.specs.declared.command.Listed.the-variants as listed
 use Rattle.model.specs.declared.table.Table.{Table}
-use Rattle.rules.specs.Claims.{IndexToTheNearest, Layout, ListedBlock, ListsInOrder, ToTheNearest, distance}
+use Rattle.rules.specs.Claims.{IndexToTheNearest, Layout, ListedBlock, ListsInOrder, ToTheNearest, bytesAt, distance}
 use Rattle.rules.specs.Counting.{sumTo}
 use Rattle.rules.specs.Drive.{Drive, blockAt, blockWith, bySerialTo, closedCount, domainAt, heldBy, openCount, size, toldOf}
-use Rattle.rules.specs.LogPages.{bytesOf, ifListed, isListed, list, listLength, listOf, listedBlocks, listedCount, nearest, page, pageFields, wearIndex}
+use Rattle.rules.specs.LogPages.{bytesOf, ifListed, isListed, list, listLength, listMark, listOf, listedBlocks, listedCount, nearest, page, pageFields, wearIndex}
 use Rattle.rules.specs.Observation.{serialAt}
 use Rattle.rules.proofs.Counting.{sum-same}
 use Rattle.rules.proofs.Kept.Facts.{Facts}
@@ -67,7 +67,7 @@ nearest-to n d l =
 pub index-nearest : (rated erases : ℕ) → 0 < rated → IndexToTheNearest rated erases (wearIndex rated erases)
 index-nearest rated erases l = record {
   rounded = nearest (erases * 200) rated;
-  nearest = nearest-to (erases * 200) rated l;
+  is-nearest = nearest-to (erases * 200) rated l;
   alone = λ i is. sym (is-nearest (erases * 200) rated i is);
   capped = refl;
 }
@@ -83,6 +83,31 @@ nearest-rises (suc d) m n l =
 
 pub index-rises : (rated m n : ℕ) → m ≤ n → wearIndex rated m ≤ wearIndex rated n
 index-rises rated m n l = omega (arith, nearest-rises rated (m * 200) (n * 200) (omega (arith, l)))
+
+-- The index is a byte, which the page has at 12, and a list at 4 of each descriptor.
+index-byte : (rated erases : ℕ) → wearIndex rated erases % 256 ≡ wearIndex rated erases
+index-byte rated erases = mod-eq-of-lt (omega (arith, index-most rated erases))
+
+pub index-in-page : (c : Config) (n : ℕ) (b : Block) → bytesAt 12 1 (page c n b) ≡ wearIndex (c .rated) (b .erases) ∷ []
+unfolding page bytesOf littleEndian
+index-in-page c n b = ap (λ (x : ℕ). x ∷ []) (index-byte (c .rated) (b .erases))
+
+index-in-row : (t : Table) (mark : Block → ℕ) (ns : List ℕ) (i : ℕ) → i < length ns
+    → bytesAt (8 * i + 4) 1 (listOf t mark ns) ≡ wearIndex (t .config .rated) (blockAt t (getD ns i 0) .erases) ∷ []
+unfolding listOf littleEndian
+index-in-row t mark [] i l = absurd (omega (arith, l))
+index-in-row t mark (n ∷ ns) zero l = ap (λ (x : ℕ). x ∷ []) (index-byte (t .config .rated) (blockAt t n .erases))
+index-in-row t mark (n ∷ ns) (suc i) l =
+    ap (λ (k : ℕ). bytesAt k 1 (listOf t mark (n ∷ ns))) (next i) ∙ index-in-row t mark ns i (omega (arith, l))
+  where
+    next : (i : ℕ) → 8 * suc i + 4 ≡ suc (suc (suc (suc (suc (suc (suc (suc (8 * i + 4))))))))
+    next i = omega arith
+
+pub index-in-list : (t : Table) (d : ℕ) (which : Listed) (i : ℕ) → i < length (listedBlocks t d which)
+    → let n = getD (listedBlocks t d which) i 0 in
+    bytesAt (8 * i + 4) 1 (list t d which) ≡ wearIndex (t .config .rated) (blockAt t n .erases) ∷ []
+unfolding list
+index-in-list t d which i l = index-in-row t (listMark which) (listedBlocks t d which) i l
 
 -- A list has 8 bytes for each block and for the end mark.
 list-bytes : (t : Table) (mark : Block → ℕ) (ns : List ℕ) → length (listOf t mark ns) ≡ 8 * (length ns + 1)

@@ -109,16 +109,18 @@ Layout (f ∷ fs) bytes =
 abbrev pub distance : ℕ → ℕ → ℕ
 distance m n = (m - n) + (n - m)
 
--- i is n / d to the nearest whole, halves up: twice the distance between i and n / d is at most 1, and where it is 1, i lies above. Here
--- with both sides times d.
+-- i is the fraction n / d to the nearest whole, halves up: twice the distance between i and n / d is at most 1, and
+-- where it is 1, i is above n / d. All of it is multiplied by d, so that no fraction stands here; for d = 0 there is
+-- no such i.
 pub record ToTheNearest (n d i : ℕ) : Type 0 where
   pub near : 2 * distance (i * d) n ≤ d
   pub half-up : 2 * distance (i * d) n ≡ d → n < i * d
 
--- 02, Wish 3: the P/E index is count × 200 / N to the nearest whole, halves up, which is one number alone, and that is then capped at 255.
+-- 02, Wish 3: `rounded` is count × 200 / N to the nearest whole, halves up; no other number is; the index is
+-- `rounded`, capped at 255.
 pub record IndexToTheNearest (rated erases index : ℕ) : Type 0 where
   pub rounded : ℕ
-  pub nearest : ToTheNearest (erases * 200) rated rounded
+  pub is-nearest : ToTheNearest (erases * 200) rated rounded
   pub alone : (i : ℕ) → ToTheNearest (erases * 200) rated i → i ≡ rounded
   pub capped : index ≡ min rounded 255
 

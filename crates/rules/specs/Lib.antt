@@ -1,4 +1,5 @@
--- Document 01 as definitions that compute, in its order. `Counting` and `Drive` are what the rest is written in.
+-- Document 01, and Wishes 1 to 3 of 02, as definitions that compute, in 01's order. `Counting` and `Drive` are what
+-- the rest is written in.
 pub mod Counting
 pub mod Drive
 pub mod Start

@@ -1,5 +1,5 @@
--- Document 01, "Blocks": Super Block Information (000, 6.4.4) and the two lists, byte by byte. Document 02, Wish 2: the order of the
--- lists.
+-- Document 01, "Blocks": Super Block Information (000, 6.4.4) and the two lists, byte by byte. Document 02: the order
+-- of the lists (Wish 2) and the P/E index (Wish 3).
 use Prim.Native.Nat.{ℕ, _+_, _*_, _/_, min}
 use mathlib.Core.Bool.{Bool, cond}
 use mathlib.Core.List.{List, [], _∷_, _++_}
@@ -33,11 +33,13 @@ placementField Free = 65535
 placementField (Open way) = placementOf way
 placementField (Closed way) = placementOf way
 
--- n / d to the nearest whole, halves up.
+-- The fraction n / d to the nearest whole, halves up: n / d + 1/2, which is (2n + d) / 2d, rounded down; 0 where d is
+-- 0.
 abbrev pub nearest : ℕ → ℕ → ℕ
 nearest n d = (2 * n + d) / (2 * d)
 
--- P/E index (02, Wish 3): count × 200 / N to the nearest whole, halves up, and then at most 255.
+-- P/E index (02, Wish 3), of N and of the count: count × 200 / N to the nearest whole, halves up, and then capped at
+-- 255.
 abbrev pub wearIndex : ℕ → ℕ → ℕ
 wearIndex rated erases = min (nearest (erases * 200) rated) 255
 

@@ -1,5 +1,5 @@
--- Document 01, "Where a builder goes astray": a row for each line that the table of P1 to P12 does not show already, and one each for
--- the order of the lists and the P/E index (02, Wishes 2 and 3).
+-- Document 01, "Where a builder goes astray": a row for each line that the table of P1 to P12 does not show already,
+-- and one each for the order of the lists and the P/E index (02, Wishes 2 and 3).
 use Prim.Native.Nat.{ℕ}
 use mathlib.Core.List.{List, [], _∷_, _++_}
 use lib.ListN.{drop, take}
@@ -7,14 +7,15 @@ use Rattle.geometry.specs.Answers.{configOf}
 use Rattle.geometry.specs.Questions.{Outcome}
 use Rattle.geometry.specs.Shape.{adus, planes}
 use Rattle.model.specs.declared.command.Command.{Command}
-use Rattle.model.specs.declared.command.Command.the-variants.{Close, Create, Erase, Free, Pulse, WriteByBlock}
+use Rattle.model.specs.declared.command.Command.the-variants.{Close, Create, Erase, Free, List as Listing, Page, Pulse, WriteByBlock}
 use Rattle.model.specs.declared.command.Listed.the-variants as listed
 use Rattle.rules.specs.Blocks.{anyBlock}
 use Rattle.rules.specs.Counting.{countTo}
 use Rattle.rules.specs.Drive.{blockAt, isFree, size}
-use Rattle.rules.specs.LogPages.{descriptor, list, listMark, listedBlocks, page, wearIndex}
-use Rattle.rules.specs.ProvedTable.{Row, _are_, _is_, after, calls, domain1, freshStore, leftOf, numbersGot, small}
-use Rattle.rules.specs.Runs.{answers, begun}
+use Rattle.rules.specs.Effects.{bytesFilled}
+use Rattle.rules.specs.LogPages.{list, listedBlocks, wearIndex}
+use Rattle.rules.specs.ProvedTable.{Row, _are_, _is_, after, call, calls, domain1, freshStore, leftOf, numbersGot, small}
+use Rattle.rules.specs.Runs.{answers, begun, reference}
 
 -- The values that the commands of a list are answered, one after the other.
 unfoldable pub valuesOf : List Outcome → List ℕ
@@ -96,14 +97,16 @@ listsBySerial =
     ∷ (drop 8 (list (after closes .table) 1 listed.Closed) are 7 ∷ 0 ∷ 0 ∷ 0 ∷ 0 ∷ 1 ∷ 0 ∷ 0 ∷ 255 ∷ 255 ∷ 255 ∷ 255 ∷ 0 ∷ 0 ∷ 0 ∷ 0 ∷ [])
     ∷ []
 
--- 02, Wish 3: the P/E index goes to the nearest whole, halves up. Of 400, count 3 is exactly 1.5 and has 2, where it had 1, and count 1 has
--- 1, where it had 0. Just below and above a half (401 and 399) it goes down and up; it is capped once it is rounded (254.5 and 255.5 have
--- 255), and no count is too large. The Page and the lists show it.
-abbrev pub indexToTheNearest : Row
-indexToTheNearest =
-    let erase = Erase 1 0 in
-    let b = blockAt (after (guest 1 ∷ erase ∷ Close 1 0 ∷ erase ∷ Close 1 0 ∷ erase ∷ []) .table) 0 in
+-- 02, Wish 3: the P/E index goes to the nearest whole, halves up. Of 400, count 3 is exactly 1.5 and has 2, where it
+-- had 1; count 1 has 1, where it had 0. 3 of 401, just below 1.5, has 1, and 1 of 399, just above 0.5, has 1. 254.5
+-- has 255, and so has 255.5, by the cap, and the largest count of the largest N. The Page and both lists show it: 2
+-- for a block with 3 erases, open and then Closed.
+abbrev pub roundedIndex : Row
+roundedIndex =
     let rated400 = configOf 128 1 1 1 8 400 60 in
+    let erases = guest 1 ∷ Erase 1 0 ∷ Close 1 0 ∷ Erase 1 0 ∷ Close 1 0 ∷ Erase 1 0 ∷ [] in
+    let opened = reference rated400 freshStore (calls erases) in
+    let closed = reference rated400 freshStore (calls (erases ++ (Close 1 0 ∷ []))) in
     (wearIndex 400 3 is 2)
     ∷ (wearIndex 400 1 is 1)
     ∷ (wearIndex 400 0 is 0)
@@ -114,11 +117,12 @@ indexToTheNearest =
     ∷ (wearIndex 400 511 is 255)
     ∷ (wearIndex 1 1 is 200)
     ∷ (wearIndex 65535 4294967295 is 255)
-    ∷ (b .erases is 3)
-    ∷ (take 1 (drop 12 (page rated400 0 b)) are 2 ∷ [])
-    ∷ (take 1 (drop 4 (descriptor rated400 (listMark listed.Open) 0 b)) are 2 ∷ [])
-    ∷ (take 1 (drop 4 (descriptor rated400 (listMark listed.Closed) 0 b)) are 2 ∷ [])
+    ∷ (blockAt (closed .table) 0 .erases is 3)
+    ∷ (take 1 (drop 12 (bytesFilled opened (call (Page 1 0)))) are 2 ∷ [])
+    ∷ (take 1 (drop 12 (bytesFilled closed (call (Page 1 0)))) are 2 ∷ [])
+    ∷ (take 1 (drop 4 (bytesFilled opened (call (Listing 1 listed.Open)))) are 2 ∷ [])
+    ∷ (take 1 (drop 4 (bytesFilled closed (call (Listing 1 listed.Closed)))) are 2 ∷ [])
     ∷ []
 
 abbrev pub wrongTurns : List Row
-wrongTurns = keptSeconds ∷ reservedStay ∷ freedAgain ∷ ownSerials ∷ listsBySerial ∷ indexToTheNearest ∷ []
+wrongTurns = keptSeconds ∷ reservedStay ∷ freedAgain ∷ ownSerials ∷ listsBySerial ∷ roundedIndex ∷ []

@@ -29,17 +29,17 @@ pub fn integrity(block: Block) -> u64
     if is_closed(block) { 1 } else { 0 }
 }
 
-// P/E index: count × 200 / N to the nearest whole, halves up, and then at most 255. It is 0 for a rated count of 0, which
-// no configuration within limits has.
+// P/E index: count × 200 / N to the nearest whole, halves up, and then at most 255. It is 0 for a rated count of 0,
+// which no configuration within limits has.
 pub fn wear_index(rated: u64, erases: u32) -> u64
     ensures { λ r. ⌜ (r ≡ wearIndex rated erases) × (r < 256) ⌝ }
 {
     if rated == 0 {
         return 0;
     }
-    let exact = erases as u64 * 200;
-    let below = exact / rated;
-    let rest = exact % rated;
+    let scaled = erases as u64 * 200;
+    let below = scaled / rated;
+    let rest = scaled % rated;
     let index = if rest < rated - rest {
         below
     } else {

@@ -13,7 +13,8 @@ use Rattle.tables.proofs.fields.wear_index.Statement.{statement}
 use Rattle.tables.proofs.fields.wear_index.Tie as tie
 
 less-than-half-left : (n d : ℕ) → n % d < d - n % d → n / d ≡ nearest n d
-less-than-half-left n d left = sym (nearest-is n d (n / d) (omega (arith, div-add-mod' n d)) (omega (arith, div-add-mod' n d, left)))
+less-than-half-left n d left =
+    sym (nearest-is n d (n / d) (omega (arith, div-add-mod' n d)) (omega (arith, div-add-mod' n d, left)))
 
 half-left : (n d : ℕ) → n % d < d → d - n % d ≤ n % d → n / d + 1 ≡ nearest n d
 half-left n d less left =
@@ -21,10 +22,12 @@ half-left n d less left =
     (rw add-mul (omega (arith, div-add-mod' n d, less, left)))
     (rw add-mul (omega (arith, div-add-mod' n d, less))))
 
-rest-less : (c : lts.Else1 reads.Pre reads.Post) → c .before .args .erases * 200 % c .before .args .rated < c .before .args .rated
+rest-less : (c : lts.Else1 reads.Pre reads.Post)
+    → c .before .args .erases * 200 % c .before .args .rated < c .before .args .rated
 rest-less c = mod-lt (c .before .args .erases * 200) (omega (arith, c .if1 .left))
 
-rounded : (c : lts.Joined2 reads.Pre reads.Post) → c .if2 .index ≡ nearest (c .before .before .args .erases * 200) (c .before .before .args .rated)
+rounded : (c : lts.Joined2 reads.Pre reads.Post)
+    → c .if2 .index ≡ nearest (c .before .before .args .erases * 200) (c .before .before .args .rated)
 rounded c =
     let n = c .before .before .args .erases * 200 in
     let d = c .before .before .args .rated in
@@ -36,8 +39,8 @@ rounded c =
 returns : tie.Need-returns
 returns c = (rw (c .if1 .taken, div-zero), omega arith)
 
-mul-exact : tie.Need-mul-exact
-mul-exact c = search needs
+mul-scaled : tie.Need-mul-scaled
+mul-scaled c = search needs
 
 div-below : tie.Need-div-below
 div-below c = search needs
@@ -61,4 +64,4 @@ returns-3 c = (omega (arith, c .if3 .left, rounded (c .before)), omega arith)
 
 pub wear-index-spec : {M : Type 1} → statement M
 wear-index-spec =
-    tie.close (tie.spec returns mul-exact div-below rem-rest sub-if2 add-index returns-2 returns-3)
+    tie.close (tie.spec returns mul-scaled div-below rem-rest sub-if2 add-index returns-2 returns-3)
