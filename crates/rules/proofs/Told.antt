@@ -2,12 +2,14 @@
 use Prim.Native.Nat.{ℕ}
 use mathlib.Core.Bool.{Bool, true, false, true≢false}
 use mathlib.Core.List.{List, [], _∷_}
-use mathlib.Core.Path.{refl, sym, ap}
+use mathlib.Core.Path.{_≡_, refl, sym, ap}
 use native.Mathlib.Omega.{arith}
 use Rattle.geometry.specs.Bytes.{littleEndian}
+use Rattle.model.specs.declared.command.Listed.{Listed}
+use Rattle.model.specs.declared.command.Listed.the-variants as listed
 use Rattle.rules.specs.Observation.{Address, Descriptor, Name, Observation, ReadBytes, ReadValues, held, noBlock, numberIn, observed, other, readDescriptors, readPage}
 use Rattle.rules.specs.Observation as seen
-use Rattle.rules.specs.Told.{ToldApart}
+use Rattle.rules.specs.Told.{ToldApart, listTold, listing}
 use Rattle.rules.proofs.Machine.{machine}
 
 abbrev isOwn : Name → Bool
@@ -51,6 +53,16 @@ descriptorsIn (seen.plain bytes) = []
 descriptorsIn (seen.page front name middle rest) = []
 descriptorsIn (seen.list descriptors) = descriptors
 
+order : (which : Listed) → ¬ (listTold which (0 ∷ 1 ∷ []) ≡ listTold which (1 ∷ 0 ∷ []))
+unfolding machine numberIn littleEndian observed readDescriptors listing
+order listed.Open e = omega (arith, ap (λ (x : Observation). firstSerial (descriptorsIn (x .bytes))) e)
+order listed.Closed e = omega (arith, ap (λ (x : Observation). firstSerial (descriptorsIn (x .bytes))) e)
+
+twice : (which : Listed) → ¬ (listTold which (0 ∷ []) ≡ listTold which (0 ∷ 0 ∷ []))
+unfolding machine numberIn littleEndian observed readDescriptors listing
+twice listed.Open e = omega (arith, ap (λ (x : Observation). secondSerial (descriptorsIn (x .bytes))) e)
+twice listed.Closed e = omega (arith, ap (λ (x : Observation). secondSerial (descriptorsIn (x .bytes))) e)
+
 pub told-apart : ToldApart
 unfolding machine numberIn littleEndian observed readPage readDescriptors
 told-apart = record {
@@ -60,7 +72,7 @@ told-apart = record {
   address = λ e. true≢false (ap (λ (x : Address). isOwn (x .block)) e);
   page = λ e. true≢false (ap (λ (x : ReadBytes). ofOwn x) e);
   answer = λ e. true≢false (ap (λ (x : Observation). answersOwn (x .values)) e);
-  order = λ e. omega (arith, ap (λ (x : Observation). firstSerial (descriptorsIn (x .bytes))) e);
-  twice = λ e. omega (arith, ap (λ (x : Observation). secondSerial (descriptorsIn (x .bytes))) e);
+  order = order;
+  twice = twice;
   index-left-out = refl;
 }

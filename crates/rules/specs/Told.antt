@@ -7,7 +7,7 @@ use lib.ListN.{replicate}
 use Rattle.geometry.specs.Address.{wordOf}
 use Rattle.geometry.specs.Shape.{adus, planes}
 use Rattle.model.specs.declared.command.Command.the-variants.{Close, Create, Erase, List as Listing}
-use Rattle.model.specs.declared.command.Listed.the-variants as which
+use Rattle.model.specs.declared.command.Listed.{Listed}
 use Rattle.rules.specs.Blocks.{anyBlock}
 use Rattle.rules.specs.Drive.{Drive}
 use Rattle.rules.specs.Example.{zeros}
@@ -32,14 +32,15 @@ descriptorWith n index = n ∷ 0 ∷ 0 ∷ 0 ∷ index ∷ 0 ∷ 0 ∷ 0 ∷ []
 abbrev pub addressIn : ℕ → ℕ
 addressIn n = wordOf small (record { domain = 1; block = n; offset = adus 0 })
 
--- What A's List of its open blocks tells it of a reply that lists two blocks, both open by erase.
-abbrev pub openByErase : ℕ → List ℕ
-openByErase n = n ∷ 0 ∷ 0 ∷ 0 ∷ 0 ∷ 8 ∷ 0 ∷ 0 ∷ []
+-- What A's List of either kind tells it of a reply that lists these blocks.
+unfoldable pub listing : List ℕ → List ℕ
+listing [] = endMark
+listing (n ∷ ns) = descriptorWith n 0 ++ listing ns
 
-abbrev pub listTold : ℕ → ℕ → Observation
-listTold n m =
-    observed 1 two (call (Listing 1 which.Open))
-    (record { answer = record { number = 0; values = [] }; words = []; bytes = openByErase n ++ openByErase m ++ endMark })
+abbrev pub listTold : Listed → List ℕ → Observation
+listTold which ns =
+    observed 1 two (call (Listing 1 which))
+    (record { answer = record { number = 0; values = [] }; words = []; bytes = listing ns })
 
 -- Bytes that begin like a page of block n: virtual device, state and block number; the other eight are 0.
 abbrev pub pageOf : ℕ → List ℕ
@@ -63,8 +64,8 @@ pub record ToldApart : Type 0 where
   -- The answers "block 0" and "block 1" to A's Close of block 0.
   pub answer : ¬ (observed 1 oneEach (call (Close 1 0)) (blockReply 0) ≡ observed 1 oneEach (call (Close 1 0)) (blockReply 1))
   -- The same two descriptors in one order and in the other.
-  pub order : ¬ (listTold 0 1 ≡ listTold 1 0)
-  -- A list with a block twice, and one with two blocks.
-  pub twice : ¬ (listTold 0 1 ≡ listTold 0 0)
+  pub order : (which : Listed) → ¬ (listTold which (0 ∷ 1 ∷ []) ≡ listTold which (1 ∷ 0 ∷ []))
+  -- A list with a block once, and one with it twice.
+  pub twice : (which : Listed) → ¬ (listTold which (0 ∷ []) ≡ listTold which (0 ∷ 0 ∷ []))
   -- But of a block that A holds the index is left out.
   pub index-left-out : descriptorIn 1 oneEach (descriptorWith 0 0) ≡ descriptorIn 1 oneEach (descriptorWith 0 77)
