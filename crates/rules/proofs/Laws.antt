@@ -1,13 +1,14 @@
 -- What is proved of the rules; each law cites its proof in the file of its subject. P1 to P12 and the wrong turns are tables:
 -- `proved-table` in ProvedTable.antt, `no-wrong-turns` in WrongTurns.antt.
-use Prim.Native.Nat.{ℕ, _+_, _*_, _≤_, _<_}
+use Prim.Native.Nat.{ℕ, _*_, _≤_, _<_}
 use mathlib.Core.Bool.{true, false}
-use mathlib.Core.List.{List, [], _∷_}
+use mathlib.Core.List.{List, [], _∷_, _++_}
 use mathlib.Core.Option.{none, some}
 use mathlib.Core.Path.{_≡_, subst}
 use lib.ListN.{getD, length}
 use Rattle.geometry.proofs.Laws.Shape.{is-between}
 use Rattle.geometry.specs.Address.{isDomainId}
+use Rattle.geometry.specs.Bytes.{littleEndian}
 use Rattle.geometry.specs.Questions.{refusal, success}
 use Rattle.geometry.specs.Shape.{planes, withinLimits}
 use Rattle.geometry.specs.declared.address.FlashAddress.{FlashAddress}
@@ -21,11 +22,11 @@ use Rattle.model.specs.declared.command.Command.the-variants.{Delete, Erase, Pu
 use Rattle.model.specs.declared.command.Listed.{Listed}
 use Rattle.model.specs.declared.table.Table.{Table}
 use Rattle.rules.specs.Blocks.{allOnes, chosenBlock, stored, userAddress, userAddresses}
-use Rattle.rules.specs.Calls.{Call, _asking_, ownDomain}
+use Rattle.rules.specs.Calls.{Call, _asking_, listBytes, ownDomain, pageBytes}
 use Rattle.rules.specs.Claims.{Chosen, Found, Gone, IndexToTheNearest, Layout, ListsInOrder, Reached, Unchanged, bytesAt, rising}
 use Rattle.rules.specs.Domains.{changedDomain}
 use Rattle.rules.specs.Drive.{Drive, blockAt, capacity, domainAt, heldCount, isFree, isOpen, size}
-use Rattle.rules.specs.Effects.{Served, Serves, answerTo, bytesFilled, questions, step, verdict, wordsFilled}
+use Rattle.rules.specs.Effects.{Served, Serves, answerTo, bytesFilled, dueBytes, questions, step, verdict, wordsFilled}
 use Rattle.rules.specs.LogPages.{list, listLength, listedBlocks, page, pageFields, wearIndex}
 use Rattle.rules.specs.Soundness.{sound}
 use Rattle.rules.specs.Start.{emptyTable, started, tableOfZeros}
@@ -100,8 +101,8 @@ lists-in-order t d which is-sound id =
     let v : Drive = record { table = t; store = [] } in
     pages.lists-in-order v d (is-between 1 16 d id .least) (facts-of v is-sound) which
 
--- 02, Wish 3: the P/E index is count × 200 / N to the nearest whole, halves up, and then capped at 255. It is never
--- above 255, and never falls as the count rises.
+-- 02, Wish 3: for N of at least 1 the P/E index is count × 200 / N to the nearest whole, halves up, and then capped at
+-- 255. It is never above 255, and never falls as the count rises.
 pub index-nearest : (rated erases : ℕ) → 0 < rated → IndexToTheNearest rated erases (wearIndex rated erases)
 index-nearest rated erases positive = pages.index-nearest rated erases positive
 
@@ -111,13 +112,16 @@ index-most rated erases = pages.index-most rated erases
 pub index-rises : (rated m n : ℕ) → m ≤ n → wearIndex rated m ≤ wearIndex rated n
 index-rises rated m n less = pages.index-rises rated m n less
 
--- Byte 12 of a block's page is its P/E index, and so is byte 4 of its descriptor, the one at place i of either list.
-pub index-in-page : (c : Config) (n : ℕ) (b : Block) → bytesAt 12 1 (page c n b) ≡ wearIndex (c .rated) (b .erases) ∷ []
-index-in-page c n b = pages.index-in-page c n b
+-- Of what Page fills, byte 12 is the block's P/E index. Of what a List of either kind fills, the descriptor at place i
+-- begins with the number of the listed block at place i, in four bytes, and that block's P/E index.
+pub index-in-page : (t : Table) (n : ℕ)
+    → bytesAt 12 1 (dueBytes t (pageBytes n)) ≡ wearIndex (t .config .rated) (blockAt t n .erases) ∷ []
+index-in-page t n = pages.index-in-page (t .config) n (blockAt t n)
 
 pub index-in-list : (t : Table) (d : ℕ) (which : Listed) (i : ℕ) → i < length (listedBlocks t d which)
     → let n = getD (listedBlocks t d which) i 0 in
-    bytesAt (8 * i + 4) 1 (list t d which) ≡ wearIndex (t .config .rated) (blockAt t n .erases) ∷ []
+    let index = wearIndex (t .config .rated) (blockAt t n .erases) in
+    bytesAt (8 * i) 5 (dueBytes t (listBytes d which)) ≡ littleEndian 4 n ++ (index ∷ [])
 index-in-list t d which i inside = pages.index-in-list t d which i inside
 
 -- The chosen block is Free, has the least P/E count, and is the lowest of those; none is chosen only where none is Free, so

@@ -84,7 +84,7 @@ nearest-rises (suc d) m n l =
 pub index-rises : (rated m n : ℕ) → m ≤ n → wearIndex rated m ≤ wearIndex rated n
 index-rises rated m n l = omega (arith, nearest-rises rated (m * 200) (n * 200) (omega (arith, l)))
 
--- The index is a byte, which the page has at 12, and a list at 4 of each descriptor.
+-- The index is a byte, which the page has at 12, and a list behind the number of each block.
 index-byte : (rated erases : ℕ) → wearIndex rated erases % 256 ≡ wearIndex rated erases
 index-byte rated erases = mod-eq-of-lt (omega (arith, index-most rated erases))
 
@@ -93,19 +93,21 @@ unfolding page bytesOf littleEndian
 index-in-page c n b = ap (λ (x : ℕ). x ∷ []) (index-byte (c .rated) (b .erases))
 
 index-in-row : (t : Table) (mark : Block → ℕ) (ns : List ℕ) (i : ℕ) → i < length ns
-    → bytesAt (8 * i + 4) 1 (listOf t mark ns) ≡ wearIndex (t .config .rated) (blockAt t (getD ns i 0) .erases) ∷ []
+    → let n = getD ns i 0 in
+    bytesAt (8 * i) 5 (listOf t mark ns) ≡ littleEndian 4 n ++ (wearIndex (t .config .rated) (blockAt t n .erases) ∷ [])
 unfolding listOf littleEndian
 index-in-row t mark [] i l = absurd (omega (arith, l))
-index-in-row t mark (n ∷ ns) zero l = ap (λ (x : ℕ). x ∷ []) (index-byte (t .config .rated) (blockAt t n .erases))
+index-in-row t mark (n ∷ ns) zero l =
+    ap (λ (x : ℕ). littleEndian 4 n ++ (x ∷ [])) (index-byte (t .config .rated) (blockAt t n .erases))
 index-in-row t mark (n ∷ ns) (suc i) l =
-    ap (λ (k : ℕ). bytesAt k 1 (listOf t mark (n ∷ ns))) (next i) ∙ index-in-row t mark ns i (omega (arith, l))
+    ap (λ (k : ℕ). bytesAt k 5 (listOf t mark (n ∷ ns))) (next i) ∙ index-in-row t mark ns i (omega (arith, l))
   where
-    next : (i : ℕ) → 8 * suc i + 4 ≡ suc (suc (suc (suc (suc (suc (suc (suc (8 * i + 4))))))))
+    next : (i : ℕ) → 8 * suc i ≡ suc (suc (suc (suc (suc (suc (suc (suc (8 * i))))))))
     next i = omega arith
 
 pub index-in-list : (t : Table) (d : ℕ) (which : Listed) (i : ℕ) → i < length (listedBlocks t d which)
     → let n = getD (listedBlocks t d which) i 0 in
-    bytesAt (8 * i + 4) 1 (list t d which) ≡ wearIndex (t .config .rated) (blockAt t n .erases) ∷ []
+    bytesAt (8 * i) 5 (list t d which) ≡ littleEndian 4 n ++ (wearIndex (t .config .rated) (blockAt t n .erases) ∷ [])
 unfolding list
 index-in-list t d which i l = index-in-row t (listMark which) (listedBlocks t d which) i l
 

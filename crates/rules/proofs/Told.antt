@@ -1,15 +1,18 @@
--- The outputs of specs/Told.antt are told apart: by whether the name is that of a held block, or by a byte.
-use Prim.Native.Nat.{ℕ}
+-- The outputs of specs/Told.antt are told apart: by whether the name is that of a held block, by a byte, or by the serial at a place.
+use Prim.Native.Nat.{ℕ, suc, _/_}
 use mathlib.Core.Bool.{Bool, true, false, true≢false}
-use mathlib.Core.List.{List, [], _∷_}
-use mathlib.Core.Path.{_≡_, refl, sym, ap}
+use mathlib.Core.List.{List, [], _∷_, _++_}
+use mathlib.Core.Path.{_≡_, refl, sym, ap, ap₂, _∙_}
 use native.Mathlib.Omega.{arith}
+use lib.ListN.{length, length-append}
+use lib.Seq.{drop-at, take-at}
 use Rattle.geometry.specs.Bytes.{littleEndian}
 use Rattle.model.specs.declared.command.Listed.{Listed}
 use Rattle.model.specs.declared.command.Listed.the-variants as listed
-use Rattle.rules.specs.Observation.{Address, Descriptor, Name, Observation, ReadBytes, ReadValues, held, noBlock, numberIn, observed, other, readDescriptors, readPage}
+use Rattle.rules.specs.Observation.{Address, Descriptor, Name, Observation, ReadBytes, ReadValues, descriptorIn, held, noBlock, numberIn, observed, other, readDescriptors, readList, readPage}
 use Rattle.rules.specs.Observation as seen
-use Rattle.rules.specs.Told.{ToldApart, listTold, listing}
+use Rattle.rules.specs.Drive.{Drive}
+use Rattle.rules.specs.Told.{ToldApart, descriptorsIn, listTold, listing}
 use Rattle.rules.proofs.Machine.{machine}
 
 abbrev isOwn : Name → Bool
@@ -48,11 +51,6 @@ abbrev secondSerial : List Descriptor → ℕ
 secondSerial [] = 0
 secondSerial (x ∷ xs) = firstSerial xs
 
-abbrev descriptorsIn : ReadBytes → List Descriptor
-descriptorsIn (seen.plain bytes) = []
-descriptorsIn (seen.page front name middle rest) = []
-descriptorsIn (seen.list descriptors) = descriptors
-
 order : (which : Listed) → ¬ (listTold which (0 ∷ 1 ∷ []) ≡ listTold which (1 ∷ 0 ∷ []))
 unfolding machine numberIn littleEndian observed readDescriptors listing
 order listed.Open e = omega (arith, ap (λ (x : Observation). firstSerial (descriptorsIn (x .bytes))) e)
@@ -62,6 +60,16 @@ twice : (which : Listed) → ¬ (listTold which (0 ∷ []) ≡ listTold which (0
 unfolding machine numberIn littleEndian observed readDescriptors listing
 twice listed.Open e = omega (arith, ap (λ (x : Observation). secondSerial (descriptorsIn (x .bytes))) e)
 twice listed.Closed e = omega (arith, ap (λ (x : Observation). secondSerial (descriptorsIn (x .bytes))) e)
+
+-- The first eight bytes are a descriptor, and what follows is read as it would be alone.
+read-first : (a : ℕ) (u : Drive) (front rest : List ℕ) → length front ≡ 8
+    → readList a u (front ++ rest) ≡ descriptorIn a u front ∷ readList a u rest
+unfolding readDescriptors
+read-first a u front rest long =
+    let one-more : length (front ++ rest) / 8 ≡ suc (length rest / 8) = omega (arith, length-append front rest, long) in
+    ap (λ (k : ℕ). readDescriptors a u k (front ++ rest)) one-more
+    ∙ ap₂ (λ (x y : List ℕ). descriptorIn a u x ∷ readDescriptors a u (length rest / 8) y)
+    (take-at front rest 8 long) (drop-at front rest 8 long)
 
 pub told-apart : ToldApart
 unfolding machine numberIn littleEndian observed readPage readDescriptors
@@ -74,5 +82,7 @@ told-apart = record {
   answer = λ e. true≢false (ap (λ (x : Observation). answersOwn (x .values)) e);
   order = order;
   twice = twice;
+  by-descriptor = λ a u d which front rest long. read-first a u front rest long;
+  nothing-else = λ a u d which. refl;
   index-left-out = refl;
 }

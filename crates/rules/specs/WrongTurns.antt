@@ -100,13 +100,13 @@ listsBySerial =
 -- 02, Wish 3: the P/E index goes to the nearest whole, halves up. Of 400, count 3 is exactly 1.5 and has 2, where it
 -- had 1; count 1 has 1, where it had 0. 3 of 401, just below 1.5, has 1, and 1 of 399, just above 0.5, has 1. 254.5
 -- has 255, and so has 255.5, by the cap, and the largest count of the largest N. The Page and both lists show it: 2
--- for a block with 3 erases, open and then Closed.
+-- for block 5 with 3 erases, open and then Closed.
 abbrev pub roundedIndex : Row
 roundedIndex =
     let rated400 = configOf 128 1 1 1 8 400 60 in
-    let erases = guest 1 ∷ Erase 1 0 ∷ Close 1 0 ∷ Erase 1 0 ∷ Close 1 0 ∷ Erase 1 0 ∷ [] in
+    let erases = guest 1 ∷ Erase 1 5 ∷ Close 1 5 ∷ Erase 1 5 ∷ Close 1 5 ∷ Erase 1 5 ∷ [] in
     let opened = reference rated400 freshStore (calls erases) in
-    let closed = reference rated400 freshStore (calls (erases ++ (Close 1 0 ∷ []))) in
+    let closed = reference rated400 freshStore (calls (erases ++ (Close 1 5 ∷ []))) in
     (wearIndex 400 3 is 2)
     ∷ (wearIndex 400 1 is 1)
     ∷ (wearIndex 400 0 is 0)
@@ -117,9 +117,9 @@ roundedIndex =
     ∷ (wearIndex 400 511 is 255)
     ∷ (wearIndex 1 1 is 200)
     ∷ (wearIndex 65535 4294967295 is 255)
-    ∷ (blockAt (closed .table) 0 .erases is 3)
-    ∷ (take 1 (drop 12 (bytesFilled opened (call (Page 1 0)))) are 2 ∷ [])
-    ∷ (take 1 (drop 12 (bytesFilled closed (call (Page 1 0)))) are 2 ∷ [])
+    ∷ (blockAt (closed .table) 5 .erases is 3)
+    ∷ (take 1 (drop 12 (bytesFilled opened (call (Page 1 5)))) are 2 ∷ [])
+    ∷ (take 1 (drop 12 (bytesFilled closed (call (Page 1 5)))) are 2 ∷ [])
     ∷ (take 1 (drop 4 (bytesFilled opened (call (Listing 1 listed.Open)))) are 2 ∷ [])
     ∷ (take 1 (drop 4 (bytesFilled closed (call (Listing 1 listed.Closed)))) are 2 ∷ [])
     ∷ []
