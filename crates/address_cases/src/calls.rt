@@ -9,7 +9,7 @@ use geometry::{Adus, Config, Created, Elements, FlashAddress, Parsed, Planes};
 pub const NONE: u64 = 0xa5a5_a5a5_a5a5_a5a5;
 
 // The numbers before a line's `=`, in its order.
-#[derive(Drop)]
+#[derive(Clone, Copy)]
 pub struct Given {
     pub a: u64,
     pub b: u64,

@@ -24,8 +24,11 @@ ghost use Rattle.std.specs.Prelude.{◌≤◌, length};
 use crate::calls::{CONFIG, Given, NONE, called};
 use case_lines::{Line, line_of, part_at, wanted_at};
 use geometry::{Config, no_config};
-use libc::{STDIN_FILENO, STDOUT_FILENO};
 use script_lines::line_end;
+
+const STDIN_FILENO: i32 = 0;
+
+const STDOUT_FILENO: i32 = 1;
 
 const HEADING: u64 = 0x23;
 

@@ -1,4 +1,6 @@
 // The line that is printed for an answer.
+#![tactic(auto)]
+
 mod answers;
 mod lines;
 mod puts;

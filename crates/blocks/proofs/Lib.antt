@@ -1,4 +1,4 @@
 -- Laws that the functions' proofs share.
 pub mod Named
-pub mod Opened
+pub mod Openings
 pub mod Erased

@@ -1,5 +1,7 @@
 // The commands on blocks: Erase, Close and Free. Write by placement opens blocks too: what is asked
 // for a new block and the opening itself serve it from here.
+#![tactic(auto)]
+
 mod closing;
 mod erasing;
 mod opening;

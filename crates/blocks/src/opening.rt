@@ -34,7 +34,7 @@ pub fn new_blocks_verdict(summary: Summary, domain: u64, serials: u32, blocks: u
 // ---- The change
 
 // The new records of a block that is opened and of the domain that it is opened for.
-#[derive(Drop)]
+#[derive(Clone, Copy)]
 pub struct Opened {
     pub block: Block,
     pub owner: Domain,

@@ -1,5 +1,7 @@
 // What is put into lent buffers and compared in them: rows of user and flash addresses, and fields of
 // bytes. A stretch of a buffer is handed on as that part alone.
+#![tactic(auto)]
+
 mod fills;
 mod user_addresses;
 

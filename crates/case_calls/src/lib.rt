@@ -1,5 +1,7 @@
 // A line of a script of cases that starts a drive or is a command: the call, on a drive by value, and
 // what it answers as numbers.
+#![tactic(auto)]
+
 ghost use Rattle.std.specs.Prelude.{◌≤◌};
 
 use case_drives::Drive;
@@ -45,7 +47,7 @@ const OPEN: u64 = 0x6f70656e;
 pub const NONE: u64 = 0xffff_ffff_ffff_ffff;
 
 // How much is lent: entries of the store, words and bytes.
-#[derive(Drop)]
+#[derive(Clone, Copy)]
 pub struct Lengths {
     pub entries: u64,
     pub words: u64,
@@ -53,7 +55,7 @@ pub struct Lengths {
 }
 
 // The answer's number and its value, and the drive.
-#[derive(Drop)]
+#[derive(Clone, Copy)]
 pub struct Reply {
     pub number: u64,
     pub value: u64,
@@ -61,7 +63,7 @@ pub struct Reply {
 }
 
 // The same with the table alone.
-#[derive(Drop)]
+#[derive(Clone, Copy)]
 struct Outcome {
     number: u64,
     value: u64,
@@ -95,7 +97,7 @@ fn replied(served: Served) -> Outcome {
 }
 
 // What a line asks for, if its first word is a command.
-#[derive(Drop)]
+#[derive(Clone, Copy)]
 enum Asked {
     Nothing,
     For(Command),

@@ -109,7 +109,7 @@ fn same_bytes(a: Drive, b: Drive) -> bool {
 }
 
 // What of two drives is the same.
-#[derive(Drop)]
+#[derive(Clone, Copy)]
 pub struct Same {
     pub table: bool,
     pub store: bool,

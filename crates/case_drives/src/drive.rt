@@ -3,7 +3,7 @@ use geometry::Config;
 use model::Table;
 use tables::{clear_block, clear_domain};
 
-#[derive(Drop)]
+#[derive(Clone, Copy)]
 pub struct Drive {
     pub table: Table,
     pub store: [u64; 1280],

@@ -1,4 +1,6 @@
 // The drive that a script of cases works on, by value: set record by record, and compared.
+#![tactic(auto)]
+
 mod compare;
 mod drive;
 mod settings;

@@ -1,9 +1,11 @@
 // A line of a script of cases as numbers. Its parts stand between blanks: a decimal number, a
 // hexadecimal one after 0x, or a word of up to 8 letters, which is its bytes as one number. Where an
 // `=` stands is told apart from them.
+#![tactic(auto)]
+
 ghost use Rattle.std.specs.Prelude.{◌≡◌, ◌+◌, ◌<◌, ◌≤◌, slice_index};
 
-#[derive(Drop)]
+#[derive(Clone, Copy)]
 pub struct Line {
     pub count: usize,
     pub parts: [u64; 40],
@@ -14,7 +16,7 @@ pub struct Line {
 const EQUALS: u64 = 0x3d;
 
 // What is read of a part so far.
-#[derive(Drop)]
+#[derive(Clone, Copy)]
 enum Part {
     Nothing,
     Decimal(u64),
@@ -112,8 +114,8 @@ pub fn line_of(text: &[u8]) -> Line {
 
 // The part at an index; 0 past the last.
 pub fn part_at(line: Line, i: usize) -> u64
-    ensures value { i < 40 → result ≡ slice_index line.parts i }
-    ensures value_2 { 40 ≤ i → result ≡ 0 }
+    ensures within { i < 40 → result ≡ slice_index line.parts i }
+    ensures past { 40 ≤ i → result ≡ 0 }
 {
     if i < 40 {
         return line.parts[i];
@@ -123,8 +125,8 @@ pub fn part_at(line: Line, i: usize) -> u64
 
 // The part that stands so many behind the first one after the `=`; past the last, what stands for none.
 pub fn wanted_at(line: Line, k: usize, none: u64) -> u64
-    ensures value { let i = line.wanted + k in i < line.count → i < 40 → result ≡ slice_index line.parts i }
-    ensures value_2 { line.count ≤ line.wanted + k → result ≡ none }
+    ensures within { let i = line.wanted + k in i < line.count → i < 40 → result ≡ slice_index line.parts i }
+    ensures past { line.count ≤ line.wanted + k → result ≡ none }
 {
     let at = line.wanted;
     if line.count <= at {

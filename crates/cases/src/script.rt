@@ -35,9 +35,12 @@ use case_drives::{
 };
 use case_lines::{Line, line_of, part_at, wanted_at};
 use geometry::no_config;
-use libc::{STDIN_FILENO, STDOUT_FILENO};
 use model::Table;
 use script_lines::line_end;
+
+const STDIN_FILENO: i32 = 0;
+
+const STDOUT_FILENO: i32 = 1;
 
 const START: u64 = 0x7374617274;
 
@@ -52,7 +55,7 @@ const LEND: u64 = 0x6c656e64;
 const WANT: u64 = 0x77616e74;
 
 // The drive as it is and as it is wanted, and the lengths that are lent.
-#[derive(Drop)]
+#[derive(Clone, Copy)]
 struct Desk {
     drive: Drive,
     wanted: Drive,

@@ -1,4 +1,6 @@
 // One line of the script: what it asks for is done to the drive, and the answer printed.
+#![tactic(auto)]
+
 ghost use Rattle.std.specs.Prelude.{◌≡◌, length};
 
 use console_state::{Console, console_of, lent_bytes, lent_store, lent_words, plain};

@@ -1,5 +1,7 @@
 // What the console holds from line to line, and the lines that need no more than that: `lend`, `show`,
 // `make`, `take`, and those that ask for nothing.
+#![tactic(auto)]
+
 ghost use Rattle.std.specs.Prelude.{◌≤◌};
 
 use drawing::show;
@@ -10,7 +12,7 @@ use shown_lines::{say, say_address, tell_expected, tell_lent};
 
 // The drive's table and the lengths that are lent, FULL for as long as the drive needs it; how many
 // lines were read, and how much of the next one.
-#[derive(Drop)]
+#[derive(Clone, Copy)]
 pub struct Console {
     pub table: Table,
     pub store: u64,

@@ -1,4 +1,6 @@
 // A pulse over a lent slice of block records.
+#![tactic(auto)]
+
 ghost use Rattle.std.specs.Prelude.{map, ◌≡◌};
 ghost use Rattle.model.specs.Blocks.{counted_down};
 

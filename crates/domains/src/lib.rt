@@ -1,4 +1,6 @@
 // The commands on domains, and Pulse: Create, Change Capacity, Delete.
+#![tactic(auto)]
+
 mod deleting;
 mod pulsing;
 mod reserving;

@@ -1,4 +1,6 @@
 // The drive as it stands, for a person: its shape, a row for each domain, and a map of its blocks.
+#![tactic(auto)]
+
 ghost use Rattle.std.specs.Prelude.{◌≤◌};
 
 use geometry::{Config, adus_per_block, planes_per_block};
@@ -58,7 +60,7 @@ fn larger(a: u64, b: u64) -> u64 {
 }
 
 // How many blocks each domain holds and has open, by its ID; entry 0 counts the Free ones.
-#[derive(Drop)]
+#[derive(Clone, Copy)]
 struct Counts {
     held: [u64; 32],
     opened: [u64; 32],

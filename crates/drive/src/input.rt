@@ -5,9 +5,9 @@ ghost use Rattle.io.specs.Counts.{IsPrefixLen};
 
 use console::{answer, no_drive};
 use console_state::Console;
-use libc::STDIN_FILENO;
 use script_lines::line_end;
 use shown_lines::tell_too_long;
+use std::io::{Read, Stdin};
 
 // The most bytes of a line.
 const LINE: usize = 4096;
@@ -67,22 +67,22 @@ fn last_line(console: Console, line: &[u8], store: &mut [u64]) {
     }
 }
 
-// A part of the input: how many bytes of the buffer it takes, and none where the input ends.
-fn read_some(text: &mut [u8]) -> usize
+// A part of the input, as one read gives it: how many bytes of the buffer it takes, and none where the
+// input ends or cannot be read.
+fn read_some(input: &mut Stdin, text: &mut [u8]) -> usize
     ensures { IsPrefixLen result text.new }
 {
-    let got = libc::read(STDIN_FILENO, text);
-    io::count(got, text)
+    input.read(text).unwrap_or(0)
 }
 
 // Reads to the end of the input.
-fn read_all(text: &mut [u8], line: &mut [u8], store: &mut [u64])
+fn read_all(input: &mut Stdin, text: &mut [u8], line: &mut [u8], store: &mut [u64])
     requires { length text.old ≤ 65536 }
 {
     let mut console = no_drive();
     let mut turns: u64 = 0xffff_ffff_ffff_ffff;
     while 0 < turns {
-        let n = read_some(text);
+        let n = read_some(input, text);
         if n == 0 {
             last_line(console, line, store);
             return;
@@ -99,9 +99,10 @@ fn store_memory() -> [u64; 262144]
     [0; 262144]
 }
 
-pub fn run() {
+pub fn run(stdin: Stdin) {
+    let mut input = stdin;
     let mut text = io::large_buffer();
     let mut line = io::buffer();
     let mut store = store_memory();
-    read_all(&mut text, &mut line, &mut store);
+    read_all(&mut input, &mut text, &mut line, &mut store);
 }

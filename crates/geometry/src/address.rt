@@ -11,7 +11,7 @@ use crate::shape::{Adus, Config, adus_per_block, block_adus, within_limits};
 
 // The elements of an ADU offset (000, Figure 3.5): the numbers of a page, a die, a plane and an
 // ADU.
-#[derive(Drop)]
+#[derive(Clone, Copy)]
 pub struct Elements {
     pub page: u64,
     pub die: u64,
@@ -20,7 +20,7 @@ pub struct Elements {
 }
 
 // The fields of a flash address (000, Figure 3.4).
-#[derive(Drop)]
+#[derive(Clone, Copy)]
 pub struct FlashAddress {
     pub domain: u64,
     pub block: u64,
@@ -28,7 +28,7 @@ pub struct FlashAddress {
 }
 
 // Why an address is refused.
-#[derive(Drop)]
+#[derive(Clone, Copy)]
 pub enum Refusal {
     // The configuration is outside the limits.
     Limits,
@@ -40,13 +40,13 @@ pub enum Refusal {
     Output,
 }
 
-#[derive(Drop)]
+#[derive(Clone, Copy)]
 pub enum Created {
     Word(u64),
     Refused(Refusal),
 }
 
-#[derive(Drop)]
+#[derive(Clone, Copy)]
 pub enum Parsed {
     Address(FlashAddress, Elements),
     Refused(Refusal),
@@ -66,7 +66,7 @@ impl Refusal {
 }
 
 // What the questions 1, 4 and 6 answer.
-#[derive(Drop)]
+#[derive(Clone, Copy)]
 enum Verdict {
     Pass,
     No(Refusal),

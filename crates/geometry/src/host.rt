@@ -1,5 +1,5 @@
 // The two functions for the C host: numbers in, the answer's number out, and the rest in a lent byte
-// buffer.
+// buffer. The crate `geometry_c` exports them to C.
 ghost use Rattle.std.specs.Prelude.{[], ◌≡◌, ◌*◌, ◌≤◌, length};
 ghost use Rattle.geometry.specs.Answers.{config_of, create_into, elements_given, filled, parse_into, returned};
 

@@ -3,6 +3,8 @@
 //
 // A configuration may hold any numbers: no function asks for one within the limits, each says what
 // it answers where it is not.
+#![tactic(auto)]
+
 mod address;
 mod bytes;
 mod host;

@@ -4,7 +4,7 @@ ghost use Rattle.geometry.specs.Shape.{adus_per_block, between, counted, drive_p
 ghost use Rattle.geometry.specs.Shape.{planes_per_block, store_length, stretch_start, whole_blocks, within_limits};
 
 // The seven numbers of a drive, in document 01's order, with its letters.
-#[derive(Drop)]
+#[derive(Clone, Copy)]
 pub struct Config {
     // G, pages per block
     pub pages: u64,
@@ -38,11 +38,11 @@ pub fn no_config() -> Config
 }
 
 // A number of planes.
-#[derive(Drop)]
+#[derive(Clone, Copy)]
 pub struct Planes(pub u64);
 
 // A number of ADUs, or a place among them: how many stand before it.
-#[derive(Drop)]
+#[derive(Clone, Copy)]
 pub struct Adus(pub u64);
 
 fn is_between(low: u64, high: u64, n: u64) -> bool

@@ -8,7 +8,7 @@ use native.Mathlib.Omega.{arith}
 use lib.Dec.{eqb, ltb}
 use lib.ListN.{get_or, length, length-replicate, replicate}
 use borrow.Author.Tests.{eqb-false, eqb-true, leb-true, ltb-true}
-use denote.Ref.{Bor}
+use denote.Ref.{MutBor}
 use Rattle.geometry.proofs.Laws.Questions.{answered_no, answered_yes}
 use Rattle.geometry.proofs.Laws.Shape.{both, by_test}
 use Rattle.geometry.specs.Questions.{Question, first_no, refusal, success}
@@ -124,12 +124,12 @@ answer_of v k =
 -- ---- A call with a result that its contract allows
 
 -- A lent buffer of this content; where it lies does not matter.
-abbrev lent : List ℕ → Bor (List ℕ)
-lent content = record { ref_ptr = (0, 0); now = content }
+abbrev lent : List ℕ → MutBor (List ℕ)
+lent content = record { ref_ptr = (0, 0); ghost_name = 0; now = content }
 
 -- The same of a lent table.
-abbrev lent_table : Table → Bor Table
-lent_table t = record { ref_ptr = (0, 0); now = t }
+abbrev lent_table : Table → MutBor Table
+lent_table t = record { ref_ptr = (0, 0); ghost_name = 0; now = t }
 
 -- A call of `serve_in` or of `serve` that is given these and hands back those.
 abbrev made : Bool → (t : Table) (c : Command) (store words bytes : List ℕ) (r : Served) (store' words' bytes' : List ℕ)

@@ -1,1 +1,2 @@
 // No code: demand 3 of the program, in specs/ and proofs/.
+#![tactic(auto)]

@@ -1,5 +1,7 @@
 // What is read and changed in lent slices of block records: one record by its number, or all of them in a walk that
 // calls what is proved of one record.
+#![tactic(auto)]
+
 ghost use Rattle.std.specs.Prelude.{◌<◌, ◌≤◌, true, List, map, ◌≡◌, get_or, length, set, take};
 ghost use Rattle.rules.specs.Domains.{freed_if_held};
 ghost use Rattle.rules.specs.Drive.{clear_block, is_free};

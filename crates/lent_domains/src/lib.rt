@@ -1,5 +1,7 @@
 // What is read and changed in a lent slice of domain records.
-ghost use Rattle.std.specs.Prelude.{◌≡◌, get_or, length, set};
+#![tactic(auto)]
+
+ghost use Rattle.std.specs.Prelude.{◌≤◌, ◌≡◌, get_or, length, set};
 ghost use Rattle.rules.specs.Drive.{clear_domain};
 ghost use Rattle.scan.specs.Marks.{mark_count};
 ghost use Rattle.scan.specs.Summary.{DomainsScanned};
@@ -8,20 +10,20 @@ use model::Domain;
 use scan::{Covering, scan_domain};
 use tables::clear_domain;
 
-// The scan of the domains, from 16 down to 1 (02, Wish 4), with the blocks that the marks have counted for each.
+// The scan of the domains, from the first to the last, with the blocks that the marks have counted for each.
 pub fn scan_domains(domains: &[Domain], blocks: u64, marks: &[u16]) -> Covering
-    requires { (length domains.now ≡ 16) × (length marks.now ≡ mark_count) }
-    ensures { DomainsScanned domains.now blocks marks.now 0 result }
+    requires { (length domains.now ≤ 16) × (length marks.now ≡ mark_count) }
+    ensures { DomainsScanned domains.now blocks marks.now (length domains.now) result }
 {
     let mut covering = Covering {
         sound: true,
         coverage: 0,
     };
-    let mut n = 16;
-    while 0 < n {
-        n -= 1;
+    let mut n = 0;
+    while n < domains.len() {
         let domain = domains[n];
         covering = scan_domain(covering, n, domain, blocks, marks);
+        n += 1;
     }
     covering
 }

@@ -1,4 +1,6 @@
 // The log pages: Page and List.
+#![tactic(auto)]
+
 mod fields;
 mod lists;
 mod pages;

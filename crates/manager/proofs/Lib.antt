@@ -1,2 +1,3 @@
 -- Laws that the functions' proofs share.
 pub mod Seeing
+pub mod Dispatches

@@ -9,7 +9,7 @@ use crate::subjects::subject_of;
 use geometry::{Config, within_limits};
 use lent_blocks::{change_blocks, write_onwards};
 use lent_domains::put_domain;
-use model::{Answer, Command, Table};
+use model::{Answer, Block, Command, Table};
 use scan::no_marks;
 use tables::Served;
 
@@ -39,8 +39,9 @@ pub fn serve_in(
     let blocks = present_blocks(config);
     let subject = subject_of(config, command);
     let mut marks = no_marks();
+    let records: &[Block] = &table.blocks;
     let summary = summarize(
-        &table.blocks[..blocks],
+        &records[..blocks],
         &table.domains,
         config,
         subject,

@@ -7,7 +7,7 @@ use geometry::{Config, no_config, within_limits};
 use model::{Answer, Refusal, Table};
 use tables::{clear_block, clear_domain};
 
-#[derive(Drop)]
+#[derive(Clone, Copy)]
 pub struct Started {
     pub answer: Answer,
     pub table: Table,

@@ -5,7 +5,7 @@ ghost use Rattle.model.specs.Blocks.{closed, counted_down, free_block, freed, op
 use geometry::Adus;
 
 // How a block was opened.
-#[derive(Drop)]
+#[derive(Clone, Copy)]
 pub enum Way {
     Erase,
     // by a nameless write, for a placement ID
@@ -13,14 +13,14 @@ pub enum Way {
 }
 
 // A block that closes remembers its way of opening.
-#[derive(Drop)]
+#[derive(Clone, Copy)]
 pub enum State {
     Free,
     Open(Way),
     Closed(Way),
 }
 
-#[derive(Drop)]
+#[derive(Clone, Copy)]
 pub struct Block {
     pub state: State,
     // the domain that holds it, 0 for none

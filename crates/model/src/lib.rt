@@ -1,5 +1,7 @@
 // The drive as values: blocks and how they change, domains, the table, the commands and their
 // answers (document 01, "Domains" and "Blocks").
+#![tactic(auto)]
+
 mod answer;
 mod block;
 mod command;

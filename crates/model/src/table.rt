@@ -2,7 +2,7 @@
 use crate::block::Block;
 use geometry::Config;
 
-#[derive(Drop)]
+#[derive(Clone, Copy)]
 pub struct Domain {
     pub exists: bool,
     // the guarantee and the quota, in whole blocks
@@ -17,7 +17,7 @@ pub struct Domain {
 }
 
 // Domain d stands at d - 1 and block n at n. Entries at S and above are no blocks of the drive.
-#[derive(Drop)]
+#[derive(Clone, Copy)]
 pub struct Table {
     pub config: Config,
     pub domains: [Domain; 16],

@@ -16,7 +16,7 @@ use model::{Block, Domain, Way};
 use transfers::written_into;
 
 // A block that was opened and written, its owner's record afterwards, and what is then left.
-#[derive(Drop)]
+#[derive(Clone, Copy)]
 pub struct Filled {
     pub block: Block,
     pub owner: Domain,

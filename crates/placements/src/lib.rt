@@ -1,5 +1,7 @@
 // Write by placement: user addresses into the placement's open block, and into others that are opened for it while ADUs
 // remain.
+#![tactic(auto)]
+
 mod filling;
 mod placing;
 mod rest;

@@ -10,7 +10,7 @@ use tables::Outcome;
 
 // So many ADUs, whose user addresses go on from a start, for blocks that are opened for the placement. Their flash
 // addresses go behind so many words.
-#[derive(Drop)]
+#[derive(Clone, Copy)]
 pub struct Rest {
     pub placement: u8,
     pub start: u64,
@@ -19,7 +19,7 @@ pub struct Rest {
 }
 
 // What a command answers and changes, and what it has left to write.
-#[derive(Drop)]
+#[derive(Clone, Copy)]
 pub struct Partial {
     pub outcome: Outcome,
     pub rest: Rest,

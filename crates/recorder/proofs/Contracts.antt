@@ -1,5 +1,5 @@
 -- From the commands that are served, one after the other, to what the rules say of an append and of a reading.
-use Prim.Native.Nat.{ℕ, ◌+◌, ◌≤◌}
+use Prim.Native.Nat.{ℕ, ◌≤◌}
 use mathlib.Core.Bool.{Bool, true, false, true≢false, ◌&&◌, cond}
 use mathlib.Core.List.{List, [], ◌∷◌, ◌++◌}
 use mathlib.Core.Logic.{◌⊎◌, inl, inr}
@@ -24,7 +24,7 @@ use Rattle.model.specs.declared.table.Table.{Table}
 use Rattle.recorder.specs.Samples.{freeing, is_out_of_range, is_over_quota, is_refused_with, no_samples, number_or, sample_command}
 use Rattle.recorder.specs.Steps.{Again, Appends, Given, Latest, Readable, ServesWords, again, at_once, given, refused}
 use Rattle.rules.proofs.Recorder.{OldestOf, oldest}
-use Rattle.rules.specs.Calls.{Call, ◌asking◌, ◌for◌, append, calling, calling_for, latest, lending, no_bytes, profile_of}
+use Rattle.rules.specs.Calls.{Call, ◌asking◌, append, calling, calling_for, latest, lending, no_bytes, profile_of}
 use Rattle.rules.specs.Claims.{Likewise, Shaped}
 use Rattle.rules.specs.Drive.{Drive, domain_at, overwritten, size}
 use Rattle.rules.specs.Effects.{Served, Serves, accepted, bytes_filled, effect, questions, step, verdict, words_filled}

@@ -1,12 +1,6 @@
 pub mod Rows
 pub mod Filling
 pub mod Gathering
-pub mod Shapes
 pub mod Keeping
-pub mod Oldest
-pub mod Arrays
-pub mod Lending
-pub mod Records
-pub mod Seeing
-pub mod Calls
+pub mod OldestClosed
 pub mod Contracts

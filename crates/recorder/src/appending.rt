@@ -6,7 +6,7 @@ ghost use Rattle.recorder.specs.Steps.{Again};
 
 use crate::choice::{freeing_command, oldest_closed, records_of};
 use crate::samples::{is_over_quota, place_of, sample_command};
-use crate::serving::serve_words;
+use crate::serving::{serve_words, show_shape};
 use lent_domains::domain_at;
 use model::{Answer, Command, Table};
 use tables::Served;
@@ -21,6 +21,7 @@ pub(crate) fn write_again(
 ) -> Answer
     ensures { Again table.old domain command store.old words.old (answering table.new result) store.new words.new }
 {
+    show_shape(table);
     let records = records_of(table.config.blocks);
     let found = oldest_closed(&table.blocks[..records], domain);
     let free = freeing_command(found, domain);
@@ -38,6 +39,7 @@ pub fn append_in(
 ) -> Answer
     ensures { ServesFor table.old (append domain sample) store.old words.old [] (served (answering table.new result) store.new words.new []) }
 {
+    show_shape(table);
     let place = place_of(domain);
     let owner = domain_at(&table.domains, place);
     let command = sample_command(owner, domain, sample);

@@ -1,7 +1,7 @@
 // The block that a domain gives up: of its Closed blocks the one with the least serial.
-ghost use Rattle.std.specs.Prelude.{◌≡◌, min, length};
+ghost use Rattle.std.specs.Prelude.{◌≡◌, ◌<◌, min, length};
 ghost use Rattle.model.specs.declared.command.Command.TheVariants.{Free};
-ghost use Rattle.recorder.specs.Choice.{found_in, older_of};
+ghost use Rattle.recorder.specs.Choice.{NarrowTo, found_in, older_of};
 
 use model::{Block, Command};
 use tables::{is_closed, is_held};
@@ -9,15 +9,16 @@ use tables::{is_closed, is_held};
 // The oldest block so far, by its number and its serial. Where there is none, they are a number that no drive has and a
 // serial above those of all blocks. It is no enum: the gap beside an enum's tag is copied through memory for every
 // block.
-#[derive(Drop)]
+#[derive(Clone, Copy)]
 pub(crate) struct Oldest {
     number: u64,
     serial: u64,
 }
 
-// Block n, or the one found before it.
+// Block n, or the one found before it. The block's serial has four bytes.
 fn older(found: Oldest, n: u64, block: Block, domain: u64) -> Oldest
-    ensures { result ≡ older_of found n block domain }
+    ensures found { result ≡ older_of found n block domain }
+    ensures narrow { block.serial < 4294967296 }
 {
     let serial = block.serial as u64;
     if is_held(block, domain) & is_closed(block) & (serial < found.serial) {
@@ -34,9 +35,10 @@ pub(crate) fn records_of(blocks: u64) -> usize
     if blocks < 256 { blocks as usize } else { 256 }
 }
 
-// The oldest Closed block of a domain, in lent records.
+// The oldest Closed block of a domain, in lent records. Their serials have four bytes, as every record's have.
 pub(crate) fn oldest_closed(blocks: &[Block], domain: u64) -> Oldest
-    ensures { result ≡ found_in blocks.now domain (length blocks.now) }
+    ensures found { result ≡ found_in blocks.now domain (length blocks.now) }
+    ensures narrow { NarrowTo blocks.now (length blocks.now) }
 {
     let mut found = Oldest {
         number: 18446744073709551615,

@@ -8,7 +8,7 @@ use model::Block;
 use tables::is_held;
 
 // How many blocks the domain holds, and how many of their ADUs are written.
-#[derive(Drop)]
+#[derive(Clone, Copy)]
 pub struct Gathered {
     pub keys: usize,
     pub adus: u64,

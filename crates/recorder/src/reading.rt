@@ -12,7 +12,7 @@ ghost use Rattle.recorder.specs.Steps.{FillsLatest, Gives};
 use crate::choice::records_of;
 use crate::newest::{Gathered, fill, gather};
 use crate::samples::{is_out_of_range, may_read, no_samples};
-use crate::serving::serve_words;
+use crate::serving::{serve_words, show_shape};
 use geometry::{Adus, Config, adus_per_block};
 use lent_domains::domain_at;
 use model::{Answer, Domain, Refusal, Table};
@@ -95,6 +95,7 @@ pub fn latest_in(
     let asked = no_samples(domain);
     let answer = serve_words(table, asked, store, words);
     if is_out_of_range(answer) {
+        show_shape(table);
         let config = table.config;
         let records = records_of(config.blocks);
         let mut keys: [u64; 256] = [0; 256];

@@ -17,7 +17,7 @@ use Rattle.model.specs.declared.block.State.{State}
 use Rattle.model.specs.declared.block.State.TheVariants as state
 use Rattle.model.specs.declared.command.Command.TheVariants.{Free}
 use Rattle.model.specs.declared.table.Table.{Table}
-use Rattle.rules.specs.Blocks.{new_blocks, room}
+use Rattle.rules.specs.Blocks.{new_blocks}
 use Rattle.rules.specs.Calls.{Call, ◌asking◌, ◌for◌, append}
 use Rattle.rules.specs.Claims.{LentOwn, Likewise, Oldest, Shaped}
 use Rattle.rules.specs.Drive.{Drive, block_at, domain_at, held_by, held_count, is_closed, is_open_for, open_block, open_count, size}

@@ -12,7 +12,7 @@ use Rattle.rules.specs.Noninterference.{Exchange, Replied, calls, fully_reserved
 use Rattle.rules.specs.Observation.{Reply, request_of}
 use Rattle.rules.specs.LogPages.{listed_blocks}
 use Rattle.rules.specs.ProvedTable.{call}
-use Rattle.rules.specs.Runs.{answers, run}
+use Rattle.rules.specs.Runs.{run}
 use Rattle.rules.proofs.Machine.{machine}
 
 -- ---- The two lists

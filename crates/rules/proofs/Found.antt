@@ -16,7 +16,6 @@ use Rattle.geometry.specs.Shape.{adus, adus_per_block, store_length, stretch_sta
 use Rattle.geometry.specs.declared.address.FlashAddress.{FlashAddress}
 use Rattle.geometry.specs.declared.shape.Adus.{Adus}
 use Rattle.geometry.specs.declared.shape.Config.{Config}
-use Rattle.model.specs.Blocks.{opened}
 use Rattle.model.specs.declared.block.Block.{Block}
 use Rattle.model.specs.declared.block.State.{State}
 use Rattle.model.specs.declared.block.State.TheVariants.{Closed, Free, Open}
@@ -24,7 +23,7 @@ use Rattle.model.specs.declared.block.Way.TheVariants as way
 use Rattle.model.specs.declared.command.Command.{Command}
 use Rattle.model.specs.declared.command.Command.TheVariants.{Erase, Read, WriteByBlock, WriteByPlacement}
 use Rattle.model.specs.declared.table.Table.{Table}
-use Rattle.rules.specs.Blocks.{all_ones, any_block, chosen_block, erased_block, matches, opened_for, room, room_in, stored, user_address, user_addresses}
+use Rattle.rules.specs.Blocks.{all_ones, any_block, chosen_block, erased_block, matches, opened_for, room_in, stored, user_address, user_addresses}
 use Rattle.rules.specs.Calls.{Call, ◌asking◌}
 use Rattle.rules.specs.Claims.{Found}
 use Rattle.rules.specs.Counting.{all_to}

@@ -1,2 +1,3 @@
 // No code: specs/ holds document 01's rules as definitions that compute, proofs/ what is proved of
 // them.
+#![tactic(auto)]

@@ -12,4 +12,4 @@ pub mod Soundness
 pub mod Passing
 pub mod Summaries
 pub mod Listings
-pub mod Covering
+pub mod Coverage

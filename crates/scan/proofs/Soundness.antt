@@ -1,28 +1,26 @@
 -- The scan's tests together are the test of soundness.
-use Prim.Native.Nat.{ℕ, ◌+◌, ◌-◌, ◌≤◌, ◌<◌}
+use Prim.Native.Nat.{ℕ, ◌+◌, ◌-◌, ◌≤◌, ◌<◌, max}
 use mathlib.Core.Bool.{Bool, true, false, true≢false, not, ◌&&◌}
-use mathlib.Core.Path.{◌≡◌, refl, sym, ap, ◌∙◌}
+use mathlib.Core.Path.{◌≡◌, sym, ap, ap₂, ◌∙◌}
 use native.Mathlib.Omega.{arith}
 use lib.Dec.{eqb, leb}
 use lib.ListN.{get_or}
 use borrow.Author.Tests.{le-leb, not-true}
-use Rattle.geometry.proofs.Laws.Shape.{both, by_test, is_between}
+use Rattle.geometry.proofs.Laws.Shape.{both, by_test}
 use Rattle.geometry.specs.Address.{is_domain_id}
 use Rattle.geometry.specs.Shape.{adus_per_block, within_limits}
 use Rattle.scan.proofs.Places.{apart_new, place_apart, place_shared, place_tells}
 use Rattle.scan.proofs.Steps.{free_sound, held_id}
-use Rattle.scan.specs.Clauses.{blocks_sound, covered_from, domain_index, domains_sound, holder_record, place_of, serial_new, place_new}
+use Rattle.scan.specs.Clauses.{blocks_sound, covered_to, domain_index, domains_sound, holder_record, place_of, serial_new, place_new}
 use Rattle.model.specs.declared.block.Block.{Block}
 use Rattle.model.specs.declared.table.Domain.{Domain}
 use Rattle.model.specs.declared.table.Table.{Table}
-use Rattle.rules.proofs.Counting.{all_each, all_same, each_all, same_test}
-use Rattle.rules.proofs.Domains.{coverage_alike}
+use Rattle.rules.proofs.Counting.{all_each, all_same, each_all, same_test, sum_same}
 use Rattle.rules.proofs.Kept.Facts.{BlockFacts, DomainFacts}
 use Rattle.rules.proofs.Kept.Tested.{block_facts, domain_facts, each_domain_lem, owned_by}
-use Rattle.rules.proofs.Laws.{coverage_total}
 use Rattle.rules.proofs.Soundness.{apart, together}
 use Rattle.rules.specs.Counting.{all_to}
-use Rattle.rules.specs.Domains.{coverage, coverage_from, reserved_by}
+use Rattle.rules.specs.Domains.{coverage, reserved_by}
 use Rattle.rules.specs.Drive.{block_at, clear_domain, domain_at, each_domain, held_count, is_free, open_count, size}
 use Rattle.rules.specs.Soundness.{block_sound, domain_sound, placements_differ, same_holder, same_placement, serials_differ, sound}
 
@@ -74,15 +72,14 @@ domain_at_lem t i = ap (λ n. get_or t.domains n clear_domain) (before i)
     before : (n : ℕ) → n ≡ n + 1 - 1
     before n = omega arith
 
--- With the counts the scan's sum is the coverage of each domain and those above it, and in the end the whole.
-pub covers_from : (t : Table) (held opened : ℕ → ℕ) → Counts t held opened → (n : ℕ)
-    → covered_from t.domains held n ≡ coverage_from (n + 1) (reserved_by t) (held_count t)
-unfolding covered_from
-covers_from t held opened c n =
-    coverage_alike (n + 1) _ _ _ _ (λ d low high. (refl, c.held_counted (d - 1) (omega (arith, low, high)) ∙ ap (held_count t) (omega (arith, low))))
-
-pub covers : (t : Table) (held opened : ℕ → ℕ) → Counts t held opened → covered_from t.domains held 0 ≡ coverage (reserved_by t) (held_count t)
-covers t held opened c = covers_from t held opened c 0 ∙ coverage_total (reserved_by t) (held_count t)
+-- With the counts the scan's sum is the coverage.
+pub covers : (t : Table) (held opened : ℕ → ℕ) → Counts t held opened → covered_to t.domains held 16 ≡ coverage (reserved_by t) (held_count t)
+unfolding covered_to coverage
+covers t held opened c =
+    sum_same 16
+    (λ i. max (get_or t.domains i clear_domain).reserved (held i))
+    (λ i. max (reserved_by t (i + 1)) (held_count t (i + 1)))
+    (λ i l. ap₂ max (ap (λ r. r.reserved) (domain_at_lem t i)) (c.held_counted i l))
 
 -- The clauses that speak of one domain, ..
 abbrev domain_test : Table → ℕ → Bool
@@ -90,23 +87,18 @@ domain_test t d = domain_sound (size t) (held_count t d) (open_count t d) (domai
 
 -- .. which the scan tests of every domain.
 domain_tests : (t : Table) (held opened : ℕ → ℕ) → Counts t held opened
-    → domains_sound t.domains (size t) held opened 0 ≡ each_domain (domain_test t)
+    → domains_sound t.domains (size t) held opened 16 ≡ each_domain (domain_test t)
 unfolding domains_sound
-domain_tests t held opened c = all_same 16 (λ i. test (0 + i)) (λ i. domain_test t (i + 1)) (λ i l. ap test (from_first i) ∙ same i l)
-  where
-    test : ℕ → Bool
-    test i = domain_sound (size t) (held i) (opened i) (get_or t.domains i clear_domain)
-
-    from_first : (i : ℕ) → 0 + i ≡ i
-    from_first i = omega arith
-
-    same : (i : ℕ) → i < 16 → test i ≡ domain_test t (i + 1)
-    same i l = rw (domain_at_lem t i, c.held_counted i l, c.open_counted i l)
+domain_tests t held opened c =
+    all_same 16
+    (λ i. domain_sound (size t) (held i) (opened i) (get_or t.domains i clear_domain))
+    (λ i. domain_test t (i + 1))
+    (λ i l. rw (domain_at_lem t i, c.held_counted i l, c.open_counted i l))
 
 -- The scan's tests, with these counts.
 abbrev pub passes : Table → (ℕ → ℕ) → (ℕ → ℕ) → Bool
 passes t held opened =
-    blocks_sound t (size t) && domains_sound t.domains (size t) held opened 0 && leb (covered_from t.domains held 0) (size t)
+    blocks_sound t (size t) && domains_sound t.domains (size t) held opened 16 && leb (covered_to t.domains held 16) (size t)
 
 -- What is tested of block n: its own clauses, and those that it shares with the blocks before it.
 record Tested (t : Table) (n : ℕ) : Type 0 where
@@ -162,8 +154,8 @@ places_apart t n differ = apart_new t n (λ m l small e.
 passed_sound : (t : Table) (held opened : ℕ → ℕ) → within_limits t.config ≡ true → Counts t held opened → passes t held opened ≡ true → sound t ≡ true
 unfolding serial_new
 passed_sound t held opened limits c q =
-    let q2 = both _ (leb (covered_from t.domains held 0) (size t)) q in
-    let q1 = both (blocks_sound t (size t)) (domains_sound t.domains (size t) held opened 0) q2.0 in
+    let q2 = both _ (leb (covered_to t.domains held 16) (size t)) q in
+    let q1 = both (blocks_sound t (size t)) (domains_sound t.domains (size t) held opened 16) q2.0 in
     let ofBlock = blocks_apart t q1.0 in
     let ofDomains = sym (domain_tests t held opened c) ∙ q1.1 in
     let domains : (d : ℕ) → 1 ≤ d → d ≤ 16 → DomainFacts t d =

@@ -1,5 +1,5 @@
 -- How the scan of the blocks and the one of the domains test the clauses of soundness.
-use Rattle.std.specs.Prelude.{ℕ, zero, suc, ◌+◌, ◌*◌, ◌/◌, ◌%◌, ◌-◌, Bool, not, ◌&&◌, cond, List, eqb, ltb, get_or}
+use Rattle.std.specs.Prelude.{ℕ, zero, suc, ◌+◌, ◌*◌, ◌/◌, ◌%◌, ◌-◌, max, Bool, not, ◌&&◌, cond, List, eqb, ltb, get_or}
 use Rattle.geometry.specs.Address.{is_domain_id}
 use Rattle.model.specs.declared.block.Block.{Block}
 use Rattle.model.specs.declared.block.State.{State}
@@ -7,8 +7,7 @@ use Rattle.model.specs.declared.block.State.TheVariants.{Closed, Free, Open}
 use Rattle.model.specs.declared.block.Way.TheVariants.{Erase, Placement}
 use Rattle.model.specs.declared.table.Domain.{Domain}
 use Rattle.model.specs.declared.table.Table.{Table}
-use Rattle.rules.specs.Counting.{all_from, all_to}
-use Rattle.rules.specs.Domains.{coverage_from}
+use Rattle.rules.specs.Counting.{all_to, sum_to}
 use Rattle.rules.specs.Drive.{block_at, capacity, clear_domain, is_free}
 use Rattle.rules.specs.Soundness.{block_sound, domain_sound, serials_differ}
 
@@ -64,10 +63,10 @@ blocks_sound t n =
     && serial_new t i)
     n
 
--- Of the domain at place n and of those above it, with the blocks that each holds and has open: whether their clauses hold, ..
+-- Every domain, with the blocks that each holds and has open.
 unfoldable pub domains_sound : List Domain → ℕ → (ℕ → ℕ) → (ℕ → ℕ) → ℕ → Bool
-domains_sound rs blocks held opened n = all_from (λ i. domain_sound blocks (held i) (opened i) (get_or rs i clear_domain)) n 16
+domains_sound rs blocks held opened n = all_to (λ i. domain_sound blocks (held i) (opened i) (get_or rs i clear_domain)) n
 
--- .. and their coverage (02, Wish 4). The domain at place n has the ID n + 1.
-unfoldable pub covered_from : List Domain → (ℕ → ℕ) → ℕ → ℕ
-covered_from rs held n = coverage_from (n + 1) (λ d. (get_or rs (d - 1) clear_domain).reserved) (λ d. held (d - 1))
+-- The larger of reserved and held, over the first n domains.
+unfoldable pub covered_to : List Domain → (ℕ → ℕ) → ℕ → ℕ
+covered_to rs held n = sum_to (λ i. max (get_or rs i clear_domain).reserved (held i)) n

@@ -1,10 +1,10 @@
 -- What a command sees of a table.
-use Rattle.std.specs.Prelude.{ℕ, ◌+◌, ◌-◌, ◌<◌, Bool, true, false, ◌&&◌, cond, List, [], ◌≡◌, eqb, leb, ltb, get_or, length, take}
+use Rattle.std.specs.Prelude.{ℕ, ◌+◌, ◌-◌, ◌<◌, max, Bool, true, false, ◌&&◌, cond, List, [], ◌≡◌, eqb, leb, ltb, get_or, length, take}
 use Rattle.std.proofs.Math.Option.{Option, none, some}
 use Rattle.geometry.specs.Address.{is_domain_id}
 use Rattle.geometry.specs.Shape.{adus_per_block, within_limits}
 use Rattle.geometry.specs.declared.shape.Config.{Config}
-use Rattle.scan.specs.Clauses.{covered_from, domains_sound, place_for}
+use Rattle.scan.specs.Clauses.{covered_to, domains_sound, place_for}
 use Rattle.scan.specs.Marks.{mark, mark_count}
 use Rattle.scan.specs.Free.{Chosen, no_candidate}
 use Rattle.scan.specs.Listing.{byte_told, index_told, listed_from, number_told}
@@ -23,7 +23,7 @@ use Rattle.rules.specs.Blocks.{chosen_block}
 use Rattle.rules.specs.Domains.{coverage, reserved_by}
 use Rattle.rules.specs.Drive.{block_at, clear_block, clear_domain, domain_at, held_count, open_block, open_count, size}
 use Rattle.rules.specs.LogPages.{list_mark, listed_blocks, wear_index}
-use Rattle.rules.specs.Soundness.{sound}
+use Rattle.rules.specs.Soundness.{domain_sound, sound}
 use Rattle.tables.specs.Changing.{present_blocks}
 
 -- A block's number; 256 and above is none.
@@ -81,23 +81,19 @@ pub record SubjectOf (t : Table) (s : Subject) : Type 0 where
   pub same_capacity : within_limits t.config ≡ true → s.capacity ≡ adus_per_block t.config
   pub same_rated : s.rated ≡ t.config.rated
 
--- What the scan of the domains has found before the first, which is domain 16, ..
+-- What the scan of the domains has found before the first, with one domain more, and after n of them.
 abbrev pub begun_covering : Covering
 begun_covering = record { sound = true; coverage = 0 }
 
--- .. and after the domain at place n: of that and of those above it, whether their clauses hold and their coverage.
+abbrev pub covering_with : Covering → ℕ → Domain → ℕ → List ℕ → Covering
+covering_with c n r blocks marks = record {
+  sound = c.sound && domain_sound blocks (mark marks n) (mark marks (16 + n)) r;
+  coverage = c.coverage + max r.reserved (mark marks n);
+}
+
 pub record DomainsScanned (rs : List Domain) (blocks : ℕ) (marks : List ℕ) (n : ℕ) (r : Covering) : Type 0 where
   pub clauses : r.sound ≡ domains_sound rs blocks (mark marks) (λ i. mark marks (16 + i)) n
-  pub sum_is : r.coverage ≡ covered_from rs (mark marks) n
-
--- One step of it, from what was found of the domains above place n, whatever records those have, ..
-abbrev pub ScannedAbove : ℕ → List ℕ → ℕ → Covering → Type 0
-ScannedAbove blocks marks n before = (rs : List Domain) × DomainsScanned rs blocks marks (n + 1) before
-
--- .. to what is found of the domain there, with this record, and of those above it.
-abbrev pub ScannedWith : ℕ → List ℕ → ℕ → Domain → Covering → Covering → Type 0
-ScannedWith blocks marks n domain before after =
-    (rs : List Domain) → get_or rs n clear_domain ≡ domain → DomainsScanned rs blocks marks (n + 1) before → DomainsScanned rs blocks marks n after
+  pub sum_is : r.coverage ≡ covered_to rs (mark marks) n
 
 -- The records of the drive's blocks.
 abbrev pub present : Table → List Block
@@ -135,7 +131,7 @@ pub record SummaryGathered (c : Config) (s : Subject) (bs : List Block) (rs : Li
   pub covering : Covering
   pub free : Candidate
   pub walked : Walked s rs bs 0 bs ok before marks
-  pub covered : DomainsScanned rs c.blocks marks 0 covering
+  pub covered : DomainsScanned rs c.blocks marks 16 covering
   pub chosen : Chosen 0 (cond s.choosing bs []) no_candidate free
   pub made : let number = block_about s free.number marks in
       r ≡ summary_of c s ok covering number (get_or rs (s.domain - 1) clear_domain) (get_or bs number clear_block) marks

@@ -17,7 +17,7 @@ use tables::{Verdict, ask};
 
 // What a command wants of the domain that it names: that it exists, or for Create that it does not yet. Pulse names
 // none.
-#[derive(Drop)]
+#[derive(Clone, Copy)]
 pub(crate) enum Own {
     Existing(u64),
     Missing(u64),
@@ -25,7 +25,7 @@ pub(crate) enum Own {
 }
 
 // A command's own domain, and whether it uses the store.
-#[derive(Drop)]
+#[derive(Clone, Copy)]
 pub(crate) struct Kind {
     pub own: Own,
     pub store: bool,

@@ -7,7 +7,7 @@ use tables::is_free;
 
 // A Free block that may be opened next, by its number and its erases; with 2^32 of them, more than any block has, it is
 // none.
-#[derive(Drop)]
+#[derive(Clone, Copy)]
 pub struct Candidate {
     pub number: u64,
     pub erases: u64,

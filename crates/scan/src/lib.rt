@@ -1,5 +1,7 @@
 // What every command begins with: a scan of the blocks and one of the domains test whether the table is sound and count
 // each domain's blocks; what the command is about is then looked up, and what all are asked first is answered.
+#![tactic(auto)]
+
 mod clauses;
 mod first;
 mod free;

@@ -14,7 +14,7 @@ use model::{Block, Domain, Listed, State, Way};
 use tables::is_free;
 
 // What a command is about.
-#[derive(Drop)]
+#[derive(Clone, Copy)]
 pub struct Subject {
     pub domain: u64,
     // the block that it names, or the placement whose open block it writes to

@@ -2,7 +2,7 @@
 ghost use Rattle.std.specs.Prelude.{cond, ◌≡◌, ◌+◌, ◌-◌, ◌<◌, ◌≤◌, length};
 ghost use Rattle.geometry.specs.Address.{is_domain_id};
 ghost use Rattle.scan.specs.Marks.{mark, mark_count};
-ghost use Rattle.scan.specs.Summary.{ScannedAbove, ScannedWith, block_about, found_of, open_at, summary_of};
+ghost use Rattle.scan.specs.Summary.{block_about, covering_with, found_of, open_at, summary_of};
 
 use crate::clauses::{domain_sound, larger};
 use crate::marks::{OPENED, PLACES, number};
@@ -11,13 +11,13 @@ use geometry::{Config, within_limits};
 use model::{Block, Domain};
 
 // A block that is looked for.
-#[derive(Drop)]
+#[derive(Clone, Copy)]
 pub enum Found {
     Nothing,
     Block(u64),
 }
 
-#[derive(Drop)]
+#[derive(Clone, Copy)]
 pub struct Summary {
     pub sound: bool,
     pub config: Config,
@@ -33,14 +33,13 @@ pub struct Summary {
 }
 
 // What the scan of the domains gives: whether their clauses hold, and the coverage.
-#[derive(Drop)]
+#[derive(Clone, Copy)]
 pub struct Covering {
     pub sound: bool,
     pub coverage: u64,
 }
 
-// One domain more, with the blocks that the marks have counted for it. The domains come from 16 down to 1 (02, Wish 4):
-// before, the coverage is that of the domains above this one; after, it is that of this one and those above it.
+// One domain more, with the blocks that the marks have counted for it.
 pub fn scan_domain(
     covering: Covering,
     n: usize,
@@ -48,9 +47,9 @@ pub fn scan_domain(
     blocks: u64,
     marks: &[u16],
 ) -> Covering
-    requires n_bound { (n < 16) × (length marks.now ≡ mark_count) × (covering.coverage ≤ 68719476736) }
-    requires scanned_above { ScannedAbove blocks marks.now n covering }
-    ensures { ScannedWith blocks marks.now n domain covering result × (result.coverage ≤ covering.coverage + 4294967296) }
+    requires n_bound { (n < 16) × (length marks.now ≡ mark_count) }
+    requires coverage_bound { covering.coverage ≤ 68719476736 }
+    ensures { (result ≡ covering_with covering n domain blocks marks.now) × (result.coverage ≤ covering.coverage + 4294967296) }
 {
     let held = number(marks[n]) as u64;
     let opened = number(marks[OPENED + n]) as u64;

@@ -7,14 +7,14 @@ use crate::numbers::{Value, number_of};
 use crate::words::{Mark, first_mark, same_text};
 
 // Where a line goes wrong: what was expected behind so many bytes.
-#[derive(Drop)]
+#[derive(Clone, Copy)]
 pub enum Fault {
     Expects(Expected, usize),
     Nowhere,
 }
 
 // The values that were read, and zeros behind them.
-#[derive(Drop)]
+#[derive(Clone, Copy)]
 pub struct Arguments {
     pub values: [u64; 7],
     pub fault: Fault,

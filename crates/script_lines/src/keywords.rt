@@ -7,7 +7,7 @@ ghost use Rattle.script_lines.specs.declared.keywords.Found.TheVariants.{Is};
 
 use crate::words::same_text;
 
-#[derive(Drop)]
+#[derive(Clone, Copy)]
 pub enum Keyword {
     Start,
     Create,
@@ -30,14 +30,14 @@ pub enum Keyword {
 }
 
 // The keyword that a word is, if it is one.
-#[derive(Drop)]
+#[derive(Clone, Copy)]
 pub enum Found {
     Is(Keyword),
     Nothing,
 }
 
 // What may stand at a place of a line.
-#[derive(Drop)]
+#[derive(Clone, Copy)]
 pub enum Expected {
     Keyword,
     Number,

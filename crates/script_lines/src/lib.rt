@@ -1,4 +1,6 @@
 // The script language: what a line of a script asks of the drive, or where it goes wrong.
+#![tactic(auto)]
+
 mod arguments;
 mod keywords;
 mod lines;

@@ -8,14 +8,14 @@ use crate::words::{Mark, first_mark};
 use geometry::{Adus, Config, Elements, Planes};
 use model::{Command, Listed};
 
-#[derive(Drop)]
+#[derive(Clone, Copy)]
 pub enum Buffer {
     Store,
     Words,
     Bytes,
 }
 
-#[derive(Drop)]
+#[derive(Clone, Copy)]
 pub enum Length {
     // as long as the drive needs it
     Full,
@@ -23,7 +23,7 @@ pub enum Length {
 }
 
 // What a line asks for.
-#[derive(Drop)]
+#[derive(Clone, Copy)]
 pub enum Line {
     // a blank line, or a comment alone
     Nothing,

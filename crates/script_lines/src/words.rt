@@ -4,7 +4,7 @@ ghost use Rattle.std.specs.Prelude.{◌≡◌, ◌≤◌, min, length};
 ghost use Rattle.script_lines.specs.Words.{first, is_blank, is_mark, line_end, same_text};
 
 // What a line is searched for.
-#[derive(Drop)]
+#[derive(Clone, Copy)]
 pub enum Mark {
     // a byte that is no blank
     Word,
@@ -37,7 +37,7 @@ fn is_mark(mark: Mark, b: u8) -> bool
 pub fn first_mark(line: &[u8], at: usize, mark: Mark) -> usize
     requires { at ≤ length line.now }
     ensures value { result ≡ first mark line.now at }
-    ensures lower_bound { (at ≤ result) × (result ≤ length line.now) }
+    ensures in_range { (at ≤ result) × (result ≤ length line.now) }
 {
     let mut i = at;
     while i < line.len() {
@@ -52,7 +52,7 @@ pub fn first_mark(line: &[u8], at: usize, mark: Mark) -> usize
 // Where the line of a text that begins at an index ends.
 pub fn line_end(text: &[u8], from: usize) -> usize
     ensures value { result ≡ line_end text.now from }
-    ensures lower_bound { (min from (length text.now) ≤ result) × (result ≤ length text.now) }
+    ensures in_range { (min from (length text.now) ≤ result) × (result ≤ length text.now) }
 {
     if text.len() < from {
         return text.len();

@@ -1,6 +1,7 @@
 // What is said of a line that is no command, or that asks for more than this program has.
-use libc::STDOUT_FILENO;
 use script_lines::{Buffer, Expected};
+
+const STDOUT_FILENO: i32 = 1;
 
 pub fn say(text: &[u8]) {
     io::write_all(STDOUT_FILENO, text);

@@ -1,5 +1,7 @@
 // What the program `drive` writes to standard output: answers, and what is said of a line that is no
 // command.
+#![tactic(auto)]
+
 mod answers;
 mod errors;
 

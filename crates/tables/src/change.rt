@@ -8,7 +8,7 @@ use model::{Answer, Block, Domain, Refusal};
 
 // The new records of a block and of a domain; a number of none changes none. Or of every block: seconds pass, or those
 // that the domain holds are freed.
-#[derive(Drop)]
+#[derive(Clone, Copy)]
 pub struct Change {
     pub number: u64,
     pub block: Block,
@@ -20,7 +20,7 @@ pub struct Change {
 }
 
 // What a command answers, and what it changes.
-#[derive(Drop)]
+#[derive(Clone, Copy)]
 pub struct Outcome {
     pub answer: Answer,
     pub change: Change,

@@ -2,6 +2,8 @@
 // questions and how they are put one after the other, and what a command changes.
 //
 // These functions serve the crates of the commands. What a host calls is in `manager`.
+#![tactic(auto)]
+
 mod arguments;
 mod change;
 mod fields;

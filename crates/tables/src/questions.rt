@@ -6,7 +6,7 @@ ghost use Rattle.tables.specs.Verdicts.{then_number, verdict_number};
 
 use model::{Block, Domain, Refusal};
 
-#[derive(Drop)]
+#[derive(Clone, Copy)]
 pub enum Verdict {
     Pass,
     No(Refusal),

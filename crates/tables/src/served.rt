@@ -1,7 +1,7 @@
 // What a command hands back.
 use model::{Answer, Table};
 
-#[derive(Drop)]
+#[derive(Clone, Copy)]
 pub struct Served {
     pub answer: Answer,
     pub table: Table,

@@ -1,5 +1,7 @@
 // The commands that move user addresses: Write by block and Read. A write into a block serves Write by
 // placement too.
+#![tactic(auto)]
+
 mod reads;
 mod writes;
 

@@ -5,13 +5,14 @@ use mathlib.Core.Path.{◌≡◌, refl, sym, ap, ◌∙◌}
 use native.Mathlib.Nat.{mul-suc, mul-zero}
 use native.Mathlib.Numerals.{add-one}
 use native.Mathlib.Omega.{arith}
-use lib.ListN.{drop, length, length-append, length-drop, set, take, take-append-drop}
+use lib.ListN.{drop, get_or, length, length-append, length-drop, set, take, take-append-drop}
 use lib.Seq.{drop-length, take_all, take-length, take-suc-set}
 use Rattle.model.specs.declared.block.Block.{Block}
 use Rattle.model.specs.declared.table.Domain.{Domain}
+use Rattle.model.specs.declared.table.Table.{Table}
 use Rattle.rules.proofs.Drive.{fill_then}
-use Rattle.rules.specs.Drive.{overwritten}
-use Rattle.trial.specs.Rows.{block_numbers, domain_numbers, joined_to, records_to}
+use Rattle.rules.specs.Drive.{block_at, clear_domain, overwritten}
+use Rattle.trial.specs.Rows.{block_in, block_numbers, domain_in, domain_numbers, joined_to, records_to}
 
 -- ---- Records
 
@@ -67,3 +68,19 @@ length_domain r = refl
 pub length_block : (b : Block) → length (block_numbers b) ≡ 7
 unfolding block_numbers
 length_block b = refl
+
+-- ---- What the loops over a table go through
+
+-- The row's domains, and its blocks.
+abbrev pub domains_in : List ℕ → ℕ → Domain
+domains_in row i = domain_in row (7 + 6 * i)
+
+abbrev pub blocks_in : List ℕ → ℕ → Block
+blocks_in row n = block_in row (103 + 7 * n)
+
+-- A domain's numbers, and a block's.
+abbrev pub domains_of : Table → ℕ → List ℕ
+domains_of table i = domain_numbers (get_or table.domains i clear_domain)
+
+abbrev pub blocks_of : Table → ℕ → List ℕ
+blocks_of table n = block_numbers (block_at table n)

@@ -7,7 +7,7 @@ use model::{Answer, Command, Listed};
 
 // What is asked for: a command of the manager, or one of the recorder's two calls, a domain and a sample to
 // append, or a domain and how many of its latest samples to read.
-#[derive(Drop)]
+#[derive(Clone, Copy)]
 pub(crate) enum Request {
     Command(Command),
     Append(u64, u64),

@@ -8,7 +8,7 @@ use crate::commands::{answer_number, request_in};
 use model::{Answer, Table};
 
 // The table after a run, and what was answered, summed up.
-#[derive(Drop)]
+#[derive(Clone, Copy)]
 pub(crate) struct Finished {
     pub table: Table,
     pub sum: u64,

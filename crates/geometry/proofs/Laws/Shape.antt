@@ -7,7 +7,7 @@ use native.Mathlib.Nat.{mul-le-mul, mul-le-mul_left, div-eq_of_lt-le, div-add-mo
 use native.Mathlib.Omega.{arith}
 use lib.Dec.{leb}
 use borrow.Author.Tests.{leb-true}
-use Rattle.geometry.specs.Shape.{adus_per_block, between, each_in_range, planes, planes_per_block, store_length, stretch_start, whole_blocks, within_limits}
+use Rattle.geometry.specs.Shape.{adus_per_block, between, each_in_range, planes_per_block, store_length, stretch_start, whole_blocks, within_limits}
 use Rattle.geometry.specs.declared.shape.Config.{Config}
 use Rattle.geometry.specs.declared.shape.Planes.{Planes}
 

@@ -11,7 +11,6 @@ use Rattle.model.specs.Blocks.{closed, counted_down, written_on}
 use Rattle.model.specs.declared.block.Block.{Block}
 use Rattle.model.specs.declared.block.State.{State}
 use Rattle.model.specs.declared.block.State.TheVariants as state
-use Rattle.model.specs.declared.command.Command.TheVariants.{Free}
 use Rattle.rules.specs.Drive.{overwritten}
 use Rattle.rules.specs.Observation.{Holding}
 

@@ -9,14 +9,14 @@ use native.Mathlib.Omega.{arith}
 use lib.ListN.{drop, get_or, length, length-append, length-drop, length-take, take}
 use borrow.Author.Tests.{ltb-true}
 use Rattle.geometry.proofs.Laws.Shape.{limits}
-use Rattle.geometry.specs.Shape.{adus, adus_per_block}
+use Rattle.geometry.specs.Shape.{adus_per_block}
 use Rattle.geometry.specs.declared.shape.Config.{Config}
 use Rattle.model.specs.declared.block.Block.{Block}
 use Rattle.model.specs.declared.block.State.{State}
 use Rattle.model.specs.declared.block.State.TheVariants.{Closed, Free, Open}
 use Rattle.model.specs.declared.table.Domain.{Domain}
 use Rattle.model.specs.declared.table.Table.{Table}
-use Rattle.rules.specs.Blocks.{Written, new_blocks, room, room_in, written_by_placement, written_first, written_into, written_onwards}
+use Rattle.rules.specs.Blocks.{Written, new_blocks, room_in, written_by_placement, written_first, written_into, written_onwards}
 use Rattle.rules.specs.Drive.{Drive, block_at, clear_domain, domain_at, held_by, held_count, is_open, is_open_for, is_open_state, is_placed_state, open_block, size}
 use Rattle.rules.specs.Observation.{Holding, holding_at}
 use Rattle.rules.specs.Questions.{may_open_for}

@@ -6,7 +6,7 @@ use mathlib.Core.Path.{◌≡◌, refl, sym, ap, ◌∙◌, subst}
 use native.Mathlib.Omega.{arith}
 use lib.ListN.{drop, length, length-set, take}
 use borrow.Author.Tests.{eqb-false, ne_eqb}
-use Rattle.geometry.proofs.Laws.Shape.{by_test, is_between, limits}
+use Rattle.geometry.proofs.Laws.Shape.{by_test, is_between}
 use Rattle.geometry.specs.declared.shape.Config.{Config}
 use Rattle.model.specs.Blocks.{counted_down}
 use Rattle.model.specs.declared.command.Command.TheVariants.{Delete, Pulse}

@@ -20,7 +20,7 @@ use Rattle.rules.specs.Drive.{Drive, block_at, closed_of, domain_at, held_by, is
 use Rattle.rules.specs.Effects.{effect, questions, verdict}
 use Rattle.rules.specs.Noninterference.{reserves_all}
 use Rattle.rules.specs.Observation.{Holding, Holds, name_of, serial_at}
-use Rattle.rules.specs.Questions.{exists, is_count}
+use Rattle.rules.specs.Questions.{is_count}
 use Rattle.rules.specs.Recorder.{freed_if_any, gets_thirteen, has_recorder_shape, kept, last_of, oldest_closed, sample_write, after_freeing}
 use Rattle.rules.proofs.Kept.Calls.{course_fit, course_on}
 use Rattle.rules.proofs.Kept.Recorder.{append_writes, room_domain, room_sequel}

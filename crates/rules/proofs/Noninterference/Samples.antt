@@ -9,7 +9,7 @@ use lib.Dec.{eqb, leb, ltb}
 use lib.ListN.{drop, length, length-append, length-take, take}
 use lib.Seq.{take-append_seam}
 use borrow.Author.Tests.{eq-eqb, le-leb, lt-leb, ltb-false, ltb-true, ne_eqb}
-use Rattle.geometry.proofs.Laws.Shape.{both, by_test}
+use Rattle.geometry.proofs.Laws.Shape.{by_test}
 use Rattle.geometry.specs.declared.shape.Config.{Config}
 use Rattle.model.specs.declared.block.Block.{Block}
 use Rattle.model.specs.declared.table.Domain.{Domain}
@@ -21,7 +21,7 @@ use Rattle.rules.specs.Recorder.{kept, written_in}
 use Rattle.rules.proofs.Counting.{by_eq, sum_same}
 use Rattle.rules.proofs.Kept.Entries.{entries_length}
 use Rattle.rules.proofs.Kept.Facts.{Facts, written_most}
-use Rattle.rules.proofs.Kept.Views.{Changed, if_serial, view, weight}
+use Rattle.rules.proofs.Kept.Views.{Changed, if_serial, view}
 use Rattle.rules.proofs.Noninterference.Pairing.{one_block}
 use Rattle.rules.proofs.Serials.{WithSerial, by_serial_at, by_serial_counted, by_serial_counted_to, by_serial_last, found_is, found_none, serial_found, serial_given_lem, told_alike}
 use Rattle.rules.proofs.Writes.{Ready}

@@ -8,7 +8,6 @@ use native.Mathlib.Omega.{arith}
 use lib.Dec.{ltb}
 use lib.ListN.{drop, length, take}
 use borrow.Author.Tests.{eqb-true}
-use Rattle.geometry.proofs.Laws.Shape.{limits}
 use Rattle.geometry.specs.Questions.{first_no}
 use Rattle.geometry.specs.Shape.{adus_per_block, within_limits}
 use Rattle.geometry.specs.declared.shape.Adus.{Adus}

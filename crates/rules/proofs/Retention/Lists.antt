@@ -35,7 +35,7 @@ use Rattle.rules.specs.Questions.{exists}
 use Rattle.rules.specs.Recorder.{has_recorder_shape, kept, last_of, sample_write, after_freeing, written_in}
 use Rattle.rules.specs.Retention.{EndsWith, Retains, expires_none, only_records, recorder_alone, retained, sample_of, accepted_samples}
 use Rattle.rules.specs.Runs.{run}
-use Rattle.rules.proofs.Appending.{fit, held, is_oldest, made, none_open, none_open_after, none_takes, one_takes, quota_reached, room_or_not}
+use Rattle.rules.proofs.Appending.{held, is_oldest, made, none_open, none_open_after, none_takes, one_takes, quota_reached, room_or_not}
 use Rattle.rules.proofs.Counting.{all_each, length_row}
 use Rattle.rules.proofs.Effects.{accepted_drive}
 use Rattle.rules.proofs.Found.{placement_found}

@@ -1,0 +1,73 @@
+-- A number out of range, or the new record put to the coverage rule.
+use mathlib.Core.Bool.{true}
+use mathlib.Core.Path.{◌≡◌, refl, sym, ◌∙◌}
+use Rattle.domains.proofs.Reservations.{changed_seen, reserving_outcome}
+use Rattle.geometry.specs.Address.{is_domain_id}
+use Rattle.geometry.specs.Questions.{first_no}
+use Rattle.geometry.specs.Shape.{within_limits}
+use Rattle.model.specs.declared.answer.Refusal.TheVariants.{Range}
+use Rattle.model.specs.declared.command.Command.{Command}
+use Rattle.model.specs.declared.command.Command.TheVariants.{ChangeCapacity}
+use Rattle.rules.specs.Domains.{are_plane_counts, changed_domain}
+use Rattle.rules.specs.Effects.{effect}
+use Rattle.scan.proofs.Outcomes.{begun_limits, begun_sound, begun_yes, then_outcome}
+use Rattle.scan.proofs.Seeing.{held_seen}
+use Rattle.domains.proofs.reserving.change_capacity.Goals as goal
+
+pub are_plane_counts-requires : goal.are_plane_counts-requires
+are_plane_counts-requires c =
+    let asks : Command =
+    let a = c.args in ChangeCapacity a.domain a.guarantee a.quota in
+    let within : within_limits c.args.summary.config ≡ true =
+    begun_limits asks 0 c.args.summary c.requires.0 c.requires.1 in
+    within
+
+pub changed_domain-new-requires : goal.changed_domain-new-requires
+changed_domain-new-requires c =
+    let asks : Command =
+    let a = c.args in ChangeCapacity a.domain a.guarantee a.quota in
+    let whole : c.args.summary.sound ≡ true =
+    begun_sound asks 0 c.args.summary c.requires.0 c.requires.1 in
+    let within : within_limits c.args.summary.config ≡ true =
+    begun_limits asks 0 c.args.summary c.requires.0 c.requires.1 in
+    let known-id : is_domain_id c.args.domain ≡ true =
+    let p = c.requires in begun_yes 4 p.0.0 asks 0 (p.1 p.0.0 p.0.1) in
+    let in_range : let a = c.args in c.are_plane_counts.result ≡ true → are_plane_counts a.summary.config a.guarantee a.quota ≡ true =
+    λ e. sym c.are_plane_counts.ensures ∙ e in
+    let z = c in let a = z.args in
+    record { config_value = within; quota_value = in_range c.if-are_plane_counts.true; held_bound = held_seen z.requires.0.0 a.domain a.summary z.requires.0.1 whole known-id }
+
+pub reserved-requires : goal.reserved-requires
+reserved-requires c =
+    let asks : Command =
+    let a = c.args in ChangeCapacity a.domain a.guarantee a.quota in
+    let whole : c.args.summary.sound ≡ true =
+    begun_sound asks 0 c.args.summary c.requires.0 c.requires.1 in
+    let known-id : is_domain_id c.args.domain ≡ true =
+    let p = c.requires in begun_yes 4 p.0.0 asks 0 (p.1 p.0.0 p.0.1) in
+    let z = c in record { seen = (z.requires.0, whole); domain_value = known-id }
+
+pub returns-then-are_plane_counts : goal.returns-then-are_plane_counts
+unfolding effect
+returns-then-are_plane_counts c =
+    let asks : Command =
+    let a = c.args in ChangeCapacity a.domain a.guarantee a.quota in
+    let whole : c.args.summary.sound ≡ true =
+    begun_sound asks 0 c.args.summary c.requires.0 c.requires.1 in
+    let known-id : is_domain_id c.args.domain ≡ true =
+    let p = c.requires in begun_yes 4 p.0.0 asks 0 (p.1 p.0.0 p.0.1) in
+    let in_range : let a = c.args in c.are_plane_counts.result ≡ true → are_plane_counts a.summary.config a.guarantee a.quota ≡ true =
+    λ e. sym c.are_plane_counts.ensures ∙ e in
+    let z = c in let a = z.args in λ t store words bytes s.
+    rw (c.reserved.ensures t s, c.changed_domain-new.ensures, changed_seen t a.domain a.summary a.guarantee a.quota s whole known-id)
+    (reserving_outcome t a.domain asks (changed_domain t a.domain a.guarantee a.quota) store words bytes
+    known-id (z.requires.1 t s) (rw (← s.same_config, in_range c.if-are_plane_counts.true)) refl refl)
+
+pub returns : goal.returns
+unfolding first_no
+returns c =
+    let asks : Command =
+    let a = c.args in ChangeCapacity a.domain a.guarantee a.quota in
+    let z = c in λ t store words bytes s.
+    then_outcome t asks c.refusal.result Range store words bytes (z.requires.1 t s)
+    (rw (← s.same_config, sym c.are_plane_counts.ensures ∙ c.if-are_plane_counts.false)) c.refusal.ensures

@@ -1,0 +1,11 @@
+-- What the blocks passed so far leave to tell is told by the chain from here on.
+use Rattle.std.proofs.Common.{◌≡◌}
+use Rattle.scan.specs.Marks.{chain_differs}
+use Rattle.scan.specs.Scan.{chain_passes}
+use Rattle.lent_blocks.proofs.chain_passes.Given as goal
+
+abbrev pub invariant-loop-at : goal.invariant-loop-at
+invariant-loop-at l = chain_passes l.blocks l.marks l.block l.last ≡ chain_differs l.blocks l.marks l.block l.at
+
+abbrev pub decreases-loop-at : goal.decreases-loop-at
+decreases-loop-at l = l.at

@@ -1,0 +1,16 @@
+-- The address is one of the drive, so that its word is given.
+use mathlib.Core.Path.{sym, ap, ◌∙◌}
+use Rattle.geometry.specs.Answers.{created}
+use Rattle.transfers.proofs.Addresses.{word_given, word_refused}
+use Rattle.transfers.specs.Transfers.{address_in}
+use Rattle.transfers.proofs.writes.word_at.Goals as goal
+
+pub returns-in-Word : goal.returns-in-Word
+returns-in-Word c = let z = c in
+    word_given z.args.config (address_in z.args.domain z.args.block z.args.offset) c.in-Word.word z.requires
+    (sym (ap created c.in-Word.is) ∙ c.flash_word.ensures)
+
+pub returns-in-Refused : goal.returns-in-Refused
+returns-in-Refused c = let z = c in
+    absurd (word_refused z.args.config (address_in z.args.domain z.args.block z.args.offset) c.in-Refused.field-0 z.requires
+    (sym (ap created c.in-Refused.is) ∙ c.flash_word.ensures))

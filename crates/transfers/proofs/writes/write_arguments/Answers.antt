@@ -1,0 +1,13 @@
+-- The range and the words, one by one.
+use mathlib.Core.Path.{refl}
+use Rattle.geometry.proofs.Laws.Questions.{positive}
+use Rattle.tables.proofs.Answering.{chain, one_by_one}
+use Rattle.tables.specs.Verdicts.{then_number}
+use Rattle.transfers.specs.Transfers.{write_arguments}
+use Rattle.transfers.proofs.writes.write_arguments.Goals as goal
+
+pub returns : goal.returns
+unfolding chain positive then_number write_arguments
+returns c = let z = c.args in
+    rw (c.and.ensures, c.ask.ensures, c.is_count.ensures)
+    (one_by_one (write_arguments z.summary z.words z.block z.count) refl)
