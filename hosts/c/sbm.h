@@ -1,9 +1,9 @@
 /*
  * Flash addresses of a shared drive, for the drive's C host.
  *
- * Link target/staticlib/libgeometry.a, which `rt staticlib geometry` builds from
- * proved code. Both functions take any numbers and answer 0 for success, or the
- * number of the first question that is answered no:
+ * Link target/staticlib/libgeometry.a, which `tools/staticlib geometry geometry_c`
+ * builds from proved code. Both functions take any numbers and answer 0 for
+ * success, or the number of the first question that is answered no:
  *
  *   1  the configuration is within its limits
  *   4  the domain ID is 1 to 16
