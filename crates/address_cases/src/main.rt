@@ -5,6 +5,6 @@
 mod calls;
 mod script;
 
-fn main() {
-    script::run();
+fn main(rt: HostRuntime) {
+    script::run(&rt, &mut rt.stdin());
 }

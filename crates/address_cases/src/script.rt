@@ -19,99 +19,64 @@
 //
 // `make` and `take` are the C host's functions, with LENGTH bytes of a buffer of 64; its other bytes,
 // and all of them after a refusal, are to be as they were. `create` and `parse` do the same by value.
-ghost use Rattle.std.specs.Prelude.{◌≤◌, length};
-
-use crate::calls::{CONFIG, Given, NONE, called};
-use case_lines::{Line, line_of, part_at, wanted_at};
+use crate::calls::{Row, UNFILLED, called, row};
+use case_lines::{Line, config_of, read_script};
 use geometry::{Config, no_config};
-use script_lines::line_end;
+use std::io;
+use std::io::Read;
 
-const STDIN_FILENO: i32 = 0;
+// The answer to a word that names no call.
+const UNKNOWN: u64 = 99;
 
-const STDOUT_FILENO: i32 = 1;
+// A number as it is compared and printed.
+fn shown(number: Option<u64>) -> u64 {
+    number.unwrap_or(UNFILLED)
+}
 
-const HEADING: u64 = 0x23;
+// The first number got that is not the one behind the `=`.
+fn first_other(line: Line<'_>, got: Row) -> Option<u64> {
+    let mut numbers = got.into_iter().map(shown).enumerate();
+    let (_, number) = numbers.find(|(i, number)| *number != shown(line.wanted(*i)))?;
+    Some(number)
+}
 
-// Where the numbers got are not those behind the `=`; 9 if they are.
-fn differs(line: Line, got: [u64; 9]) -> usize {
-    for i in 0..9 {
-        if got[i] != wanted_at(line, i, NONE) {
-            return i;
+fn tell(rt: &impl Print, line: Line<'_>, got: Row) -> io::Result<()> {
+    match first_other(line, got) {
+        None => {
+            print!(rt; "ok     ")?;
+            rt.write_all(line.text)?;
+            println!(rt; "")
+        }
+        Some(number) => {
+            print!(rt; "WRONG  ")?;
+            rt.write_all(line.text)?;
+            println!(rt; " got 0x{number:016x}")
         }
     }
-    9
 }
 
-fn told(text: &[u8], at: usize, got: [u64; 9]) {
-    if at < 9 {
-        io::write_all(STDOUT_FILENO, b"WRONG  ");
-    } else {
-        io::write_all(STDOUT_FILENO, b"ok     ");
-    }
-    io::write_all(STDOUT_FILENO, text);
-    if at < 9 {
-        io::write_all(STDOUT_FILENO, b" got 0x");
-        io::print_hex(STDOUT_FILENO, got[at], 16);
-    }
-}
-
-fn given(line: Line) -> Given {
-    Given {
-        a: part_at(line, 1),
-        b: part_at(line, 2),
-        c: part_at(line, 3),
-        d: part_at(line, 4),
-        e: part_at(line, 5),
-        f: part_at(line, 6),
-        g: part_at(line, 7),
-    }
-}
-
-// One line, and the configuration from then on.
-fn step(config: Config, text: &[u8]) -> Config {
-    let line = line_of(text);
-    let word = part_at(line, 0);
-    let mut next = config;
-    if word == HEADING {
-        io::write_all(STDOUT_FILENO, text);
-    } else {
-        let g = given(line);
-        if word == CONFIG {
-            next = Config {
-                pages: g.a,
-                dies: g.b,
-                planes: g.c,
-                adus: g.d,
-                blocks: g.e,
-                rated: g.f,
-                period: g.g,
-            };
+// One line, by the configuration that it leaves for those that follow.
+fn step(rt: &impl Print, config: &mut Config, line: Line<'_>) -> io::Result<()> {
+    match line.word(0).letters() {
+        b"#" => {
+            rt.write_all(line.text)?;
+            return println!(rt; "");
         }
-        let got = called(next, word, g);
-        told(text, differs(line, got), got);
+        b"config" => *config = config_of(line.arguments(0)),
+        _ => {}
     }
-    io::write_all(STDOUT_FILENO, b"\n");
-    next
-}
-
-fn lines(text: &[u8])
-    requires { length text.now ≤ 65536 }
-{
-    let mut config = no_config();
-    let mut at = 0;
-    while at < text.len() {
-        let end = line_end(text, at);
-        config = step(config, &text[at..end]);
-        at = end + 1;
-    }
+    tell(rt, line, called(*config, line).unwrap_or(row(&[UNKNOWN])))
 }
 
 // The whole of standard input, 65,535 bytes at most.
-pub fn run() {
-    let mut text = io::large_buffer();
-    let n = io::read_full(STDIN_FILENO, &mut text);
-    if n == 65536 {
-        io::write_all(STDOUT_FILENO, b"WRONG  the script is too long\n");
+pub fn run(rt: &impl Print, input: &mut impl Read) {
+    let mut text = [0; 65536];
+    let filled = read_script(input, &mut text);
+    if filled == text.len() {
+        let _ = println!(rt; "WRONG  the script is too long");
     }
-    lines(&text[..n]);
+    let mut config = no_config();
+    for line in text[..filled].split_inclusive(|b| *b == b'\n') {
+        let _ = step(rt, &mut config, Line::of(line));
+    }
 }

@@ -1,5 +1,5 @@
 -- Digits of numbers: how many there are, and the decimal ones.
-use Prim.Native.Nat.{ℕ, zero, suc, ◌*◌, ◌-◌, ◌/◌, ◌^◌, ◌≤◌, ◌<◌}
+use Prim.Native.Nat.{ℕ, min, max, zero, suc, ◌*◌, ◌-◌, ◌/◌, ◌^◌, ◌≤◌, ◌<◌}
 use mathlib.Core.Path.{◌≡◌, refl, sym, ap, ◌∙◌}
 use native.Mathlib.Nat.{div-lt_iff_lt-mul, le-div_iff_mul-le, lt_of_not-le, mod-eq_of_lt, one-le-pow, pow-le-pow_right, pow-suc}
 use native.Mathlib.Numerals.{add-one}
@@ -21,8 +21,15 @@ no_more base least places n count positive room fits f =
     omega (arith, lt_of_not-le (λ (l : suc places ≤ count). omega (arith, larger l, f.2 (omega arith))))
 
 -- Where the places that are asked for hold the number, they are the fewest.
-pub fewest : (base least n count : ℕ) → 0 < base → n < base ^ least → IsDigitCount base least n count → count ≡ least
+fewest : (base least n count : ℕ) → 0 < base → n < base ^ least → IsDigitCount base least n count → count ≡ least
 fewest base least n count positive fits f = omega (arith, no_more base least least n count positive (omega arith) fits f)
+
+-- So many are the digits that `hex` makes where so many are asked for and hold the number.
+pub asked : (width n count : ℕ) → (1 ≤ width) × (width ≤ 16) → n < 16 ^ width → IsDigitCount 16 (min (max width 1) 16) n count
+    → count ≡ width
+asked width n count allowed fits f =
+    let width_asked : min (max width 1) 16 ≡ width = omega arith in
+    fewest 16 width n count (omega arith) fits (rw width_asked at f)
 
 -- A number with two digits more than so many is at least this.
 lowest : (count n : ℕ) → IsDigitCount 10 1 n (suc (suc count)) → 10 ^ count * 10 ≤ n

@@ -8,7 +8,7 @@ use lib.ListN.{drop}
 use lib.Seq.{drop-drop}
 use Rattle.script_lines.specs.Numbers.{number_of}
 use Rattle.script_lines.specs.Words.{ascii}
-use Rattle.script_lines.specs.declared.numbers.Value.TheVariants.{Is}
+use Rattle.std.proofs.Common.{Some}
 use Rattle.answer_lines.specs.Texts.{decimal, descriptor_count, hex_word, is_end_mark}
 use Rattle.answer_lines.proofs.ReadBack.{decimal_read, digits_read, number_decimal}
 
@@ -38,10 +38,9 @@ counted_all (suc most) bytes none =
     rw (none 0 (omega arith), counted_all most (drop 8 bytes) (λ i k. rw (behind_first i bytes) (none (suc i) (omega arith))))
 
 -- A decimal number that is printed is read back as itself.
-pub decimal_read_back : (n : ℕ) → n ≤ 18446744073709551615 → number_of (decimal n) ≡ Is n
+pub decimal_read_back : (n : ℕ) → n ≤ 18446744073709551615 → number_of (decimal n) ≡ Some n
 decimal_read_back n h = number_decimal n (decimal n) (decimal_read 19 n (omega arith) h)
 
 -- So is a word behind 0x.
-pub word_read_back : (n : ℕ) → n ≤ 18446744073709551615 → number_of (ascii "0x" ++ hex_word n) ≡ Is n
-unfolding number_of
+pub word_read_back : (n : ℕ) → n ≤ 18446744073709551615 → number_of (ascii "0x" ++ hex_word n) ≡ Some n
 word_read_back n h = digits_read 16 (omega arith) (omega arith) 15 n (omega arith) h

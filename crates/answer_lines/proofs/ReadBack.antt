@@ -1,66 +1,66 @@
 -- Printed digits are read as the number that they are of.
 use Prim.Native.Nat.{ℕ, zero, suc, ◌+◌, ◌*◌, ◌/◌, ◌%◌, ◌^◌, ◌≤◌, ◌<◌}
-use mathlib.Core.Bool.{false, true, and-false, ◌&&◌, ◌||◌}
+use mathlib.Core.Bool.{false, true, and-false, ◌&&◌, ◌||◌, cond}
 use mathlib.Core.List.{List, [], ◌∷◌, ◌++◌}
 use mathlib.Core.Path.{◌≡◌, refl, ◌∙◌}
 use native.Mathlib.Nat.{div-add-mod', div-le_self, div-lt_iff_lt-mul, mod-eq_of_lt, mod-lt, one-mul, pow-suc, pow-zero}
 use native.Mathlib.Omega.{arith}
-use borrow.Author.Tests.{eqb-true, le-leb, lt-leb, lt-ltb, ltb-false, ltb-true}
+use borrow.Author.Tests.{eqb-true, le-leb, lt-ltb, ltb-true}
 use lib.Dec.{eqb, leb, ltb}
 use Rattle.geometry.proofs.Laws.Shape.{both, by_test}
 use Rattle.io.specs.Digits.{last_digits, hex_digit_ascii}
 use Rattle.script_lines.specs.Numbers.{continued, digit_value, is_hex, number_in, number_of}
-use Rattle.script_lines.specs.declared.numbers.Value.TheVariants.{Is, Nothing}
+use Rattle.std.proofs.Common.{Option, None, Some}
+use Rattle.std.specs.Option.{option_and_then}
+use Rattle.std.proofs.lemmas.Bool.Decides.{nat_tests}
 use Rattle.answer_lines.specs.Texts.{decimal_in}
 
 -- What a printed digit stands for.
-digit_value_lem : (d : ℕ) → d < 16 → digit_value (hex_digit_ascii d) ≡ d
-digit_value_lem d l =
-    by_test (ltb d 10)
-    (λ low. let small : d < 10 = ltb-true d 10 low in
-    rw (low, le-leb 48 (48 + d) (omega arith), le-leb (48 + d) 57 (omega arith)) (omega arith))
-    (λ high. let large : 10 ≤ d = ltb-false d 10 high in
-    rw (
-      high,
-      lt-leb (87 + d) 57 (omega arith),
-      and-false,
-      le-leb 97 (87 + d) (omega arith),
-      le-leb (87 + d) 102 (omega arith),
-    )
-    (omega arith))
+digit_value_lem : (d : ℕ) → d < 16 → digit_value (hex_digit_ascii d) ≡ Some d
+digit_value_lem d l = grind (arith, nat_tests)
 
 -- One digit more.
 digit_read : (base m n d : ℕ) → base ≤ 16 → d < base → m * base + d ≡ n → n ≤ 18446744073709551615
-    → continued base m (hex_digit_ascii d ∷ []) ≡ Is n
+    → continued base m (hex_digit_ascii d ∷ []) ≡ Some n
 unfolding continued
 digit_read base m n d b l e h =
     rw (digit_value_lem d (omega arith), e, lt-ltb d base l, le-leb n 18446744073709551615 h)
 
+-- What a digit and further bytes behind a number make of it.
+abbrev after : ℕ → ℕ → List ℕ → ℕ → Option ℕ
+after base n bs d =
+    cond (ltb d base && leb (n * base + d) 18446744073709551615) (continued base (n * base + d) bs) None
+
 -- What stands behind a number goes on from it ..
-read_on_lem : (base n m : ℕ) (text more : List ℕ) → continued base n text ≡ Is m → continued base n (text ++ more) ≡ continued base m more
+read_on_lem : (base n m : ℕ) (text more : List ℕ) → continued base n text ≡ Some m → continued base n (text ++ more) ≡ continued base m more
 unfolding continued
 read_on_lem base n m [] more e = let same : n ≡ m = cc in rw same
 read_on_lem base n m (b ∷ bs) more e =
-    by_test (ltb (digit_value b) base && leb (n * base + digit_value b) 18446744073709551615)
-    (λ t. rw t (read_on_lem base (n * base + digit_value b) m bs more (rw t at e)))
-    (λ t. let none : Nothing ≡ Is m = rw t at e in cc)
+    elim (digit_value b) as (λ o. option_and_then (after base n bs) o ≡ Some m
+    → option_and_then (after base n (bs ++ more)) o ≡ continued base m more) [
+      | None ↦ λ none. cc
+      | Some d ↦ λ some.
+          by_test (ltb d base && leb (n * base + d) 18446744073709551615)
+          (λ t. rw t (read_on_lem base (n * base + d) m bs more (rw t at some)))
+          (λ t. let none : None ≡ Some m = rw t at some in cc)
+    ] e
 
 -- .. and so it does from the first digit.
-number_on : (base m : ℕ) (text more : List ℕ) → number_in base text ≡ Is m → number_in base (text ++ more) ≡ continued base m more
+number_on : (base m : ℕ) (text more : List ℕ) → number_in base text ≡ Some m → number_in base (text ++ more) ≡ continued base m more
 unfolding number_in
 number_on base m [] more e = cc
 number_on base m (b ∷ bs) more e = read_on_lem base 0 m (b ∷ bs) more e
 
 module _ (base : ℕ) (positive : 0 < base) (few : base ≤ 16) where
   -- The last digit is read behind the others.
-  last_read : (n : ℕ) (text : List ℕ) → n ≤ 18446744073709551615 → number_in base text ≡ Is (n / base)
-      → number_in base (text ++ (hex_digit_ascii (n % base) ∷ [])) ≡ Is n
+  last_read : (n : ℕ) (text : List ℕ) → n ≤ 18446744073709551615 → number_in base text ≡ Some (n / base)
+      → number_in base (text ++ (hex_digit_ascii (n % base) ∷ [])) ≡ Some n
   last_read n text h e =
       number_on base (n / base) text (hex_digit_ascii (n % base) ∷ []) e
       ∙ digit_read base (n / base) n (n % base) few (mod-lt n positive) (div-add-mod' n base) h
 
   -- As many digits as hold a number are read as it.
-  pub digits_read : (places n : ℕ) → n < base ^ suc places → n ≤ 18446744073709551615 → number_in base (last_digits base (suc places) n) ≡ Is n
+  pub digits_read : (places n : ℕ) → n < base ^ suc places → n ≤ 18446744073709551615 → number_in base (last_digits base (suc places) n) ≡ Some n
   unfolding number_in
   digits_read zero n fits h =
       let small : n < base = rw (pow-suc base 0, pow-zero, one-mul) at fits in
@@ -70,13 +70,13 @@ module _ (base : ℕ) (positive : 0 < base) (few : base ≤ 16) where
       (digits_read places (n / base) ((div-lt_iff_lt-mul positive).1 (rw pow-suc at fits)) (omega (arith, div-le_self n base)))
 
 -- So is a decimal text of one digit ..
-short_read : (places n : ℕ) → n < 10 → number_in 10 (decimal_in (suc places) n) ≡ Is n
+short_read : (places n : ℕ) → n < 10 → number_in 10 (decimal_in (suc places) n) ≡ Some n
 unfolding decimal_in number_in
 short_read places n small =
     let t = lt-ltb n 10 small in rw t (rw t at (digit_read 10 0 n n (omega arith) small (omega arith) (omega arith)))
 
 -- .. and one of more.
-pub decimal_read : (places n : ℕ) → n < 10 ^ suc places → n ≤ 18446744073709551615 → number_in 10 (decimal_in (suc places) n) ≡ Is n
+pub decimal_read : (places n : ℕ) → n < 10 ^ suc places → n ≤ 18446744073709551615 → number_in 10 (decimal_in (suc places) n) ≡ Some n
 unfolding decimal_in
 decimal_read zero n fits h = short_read zero n fits
 decimal_read (suc places) n fits h =
@@ -86,14 +86,14 @@ decimal_read (suc places) n fits h =
     (decimal_read places (n / 10) (omega arith) (omega arith))))
 
 -- The letter behind 0 is no decimal digit.
-no_digit : (b : ℕ) → eqb b 120 || eqb b 88 ≡ true → digit_value b ≡ 16
+no_digit : (b : ℕ) → eqb b 120 || eqb b 88 ≡ true → digit_value b ≡ None
 no_digit b e =
     by_test (eqb b 120)
     (λ t. rw (eqb-true b 120 t))
     (λ t. rw (eqb-true b 88 (rw t at e)))
 
 -- So a text behind 0x is no decimal number ..
-no_decimal : (text : List ℕ) → is_hex text ≡ true → number_in 10 text ≡ Nothing
+no_decimal : (text : List ℕ) → is_hex text ≡ true → number_in 10 text ≡ None
 unfolding number_in continued
 no_decimal [] e = refl
 no_decimal (a ∷ []) e = let never : false ≡ true = rw and-false at e in cc
@@ -102,8 +102,7 @@ no_decimal (a ∷ b ∷ bs) e =
     rw (eqb-true a 48 t.0, no_digit b t.1)
 
 -- .. and a decimal number is read as such.
-pub number_decimal : (n : ℕ) (text : List ℕ) → number_in 10 text ≡ Is n → number_of text ≡ Is n
-unfolding number_of
+pub number_decimal : (n : ℕ) (text : List ℕ) → number_in 10 text ≡ Some n → number_of text ≡ Some n
 number_decimal n text e =
     by_test (is_hex text)
     (λ t. let none = no_decimal text t in cc)

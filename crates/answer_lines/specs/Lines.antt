@@ -23,6 +23,10 @@ refused_line number = number_line (ascii "refused ") number
 abbrev pub counted_words : Adus → List ℕ → List ℕ
 counted_words count words = words_text (take count.0 words)
 
+-- The descriptors of a list up to its end mark and with it, as text.
+abbrev pub listed_text : List ℕ → List ℕ
+listed_text bytes = descriptors_text (descriptor_count (length bytes / 8) bytes) bytes
+
 -- What success fills, as text: the words of writes and of Read, the 256 bytes of Page, the descriptors of List with the end mark.
 abbrev pub filled_text : Command → List ℕ → List ℕ → List ℕ
 filled_text (Create d guarantee quota placements limit) words bytes = []
@@ -35,7 +39,7 @@ filled_text (WriteByPlacement d p start count) words bytes = counted_words count
 filled_text (WriteByBlock d n start count) words bytes = counted_words count words
 filled_text (Read d address count expected) words bytes = counted_words count words
 filled_text (Page d n) words bytes = spaced (bytes_text (take 256 bytes))
-filled_text (Listing d listed) words bytes = descriptors_text (descriptor_count (length bytes / 8) bytes) bytes
+filled_text (Listing d listed) words bytes = listed_text bytes
 filled_text (Pulse seconds) words bytes = []
 
 -- Success with what it fills, success with a block number, or a refusal with its number.

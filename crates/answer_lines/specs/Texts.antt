@@ -1,5 +1,5 @@
 -- Pieces of a line: numbers, words and bytes as text, and a piece put into a buffer.
-use Rattle.std.specs.Prelude.{ℕ, zero, suc, ◌+◌, ◌/◌, ◌%◌, Bool, ◌&&◌, cond, List, [], ◌∷◌, ◌++◌, eqb, ltb, drop, get_or, length, take}
+use Rattle.std.specs.Prelude.{ℕ, zero, suc, ◌+◌, ◌/◌, ◌%◌, Bool, ◌&&◌, cond, List, [], ◌∷◌, ◌++◌, eqb, ltb, drop, flat_map, get_or, length, take}
 use Rattle.io.specs.Digits.{last_digits, hex_digit_ascii}
 
 -- A piece in a buffer, at an index.
@@ -27,19 +27,23 @@ abbrev pub spaced : List ℕ → List ℕ
 spaced text = 32 ∷ text
 
 -- Each word behind a space.
-unfoldable pub words_text : List ℕ → List ℕ
-words_text [] = []
-words_text (word ∷ words) = spaced (hex_word word) ++ words_text words
+abbrev pub spaced_word : ℕ → List ℕ
+spaced_word word = spaced (hex_word word)
+
+abbrev pub words_text : List ℕ → List ℕ
+words_text words = flat_map spaced_word words
 
 -- The bytes, one after the other.
-unfoldable pub bytes_text : List ℕ → List ℕ
-bytes_text [] = []
-bytes_text (byte ∷ bytes) = hex_byte byte ++ bytes_text bytes
+abbrev pub bytes_text : List ℕ → List ℕ
+bytes_text bytes = flat_map hex_byte bytes
+
+abbrev pub spaced_bytes : List ℕ → List ℕ
+spaced_bytes bytes = spaced (bytes_text bytes)
 
 -- So many groups of eight bytes, each behind a space.
 unfoldable pub descriptors_text : ℕ → List ℕ → List ℕ
 descriptors_text zero bytes = []
-descriptors_text (suc count) bytes = spaced (bytes_text (take 8 bytes)) ++ descriptors_text count (drop 8 bytes)
+descriptors_text (suc count) bytes = spaced_bytes (take 8 bytes) ++ descriptors_text count (drop 8 bytes)
 
 -- A list's end mark has FFFFFFFFh for a block number.
 abbrev pub is_end_mark : List ℕ → Bool

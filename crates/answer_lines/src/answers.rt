@@ -1,58 +1,52 @@
 // The line for an answer to a command, and for one to making or taking apart an address.
-ghost use Rattle.std.specs.Prelude.{[], ◌≡◌, ◌+◌, ◌*◌, ◌/◌, ◌≤◌, min, drop, length, take};
-ghost use Rattle.answer_lines.specs.Lines.{Prints, address_line, answer_line, counted_words, filled_text};
+ghost use Rattle.std.specs.Prelude.{[], ◌≡◌, ◌+◌, min, length, take};
+ghost use Rattle.std.specs.List.{position_or_len};
+ghost use Rattle.answer_lines.specs.Lines.{Prints, address_line, answer_line, counted_words, filled_text, listed_text};
 ghost use Rattle.answer_lines.specs.Lines.{ok_line, outcome_line, samples_line};
-ghost use Rattle.answer_lines.specs.Texts.{bytes_text, descriptor_count, is_end_mark, spaced};
+ghost use Rattle.answer_lines.specs.Texts.{bytes_text, is_end_mark, spaced};
 
-use crate::lines::{bytes_line, descriptors_line, number_line, ok_line, words_line};
+use crate::lines::{list_line, number_line, ok_line};
 use geometry::Adus;
 use model::{Answer, Command};
 
-// So many, or as many as there are.
-fn at_most(count: u64, all: usize) -> usize
-    ensures { (result ≡ min count all) × (result ≤ all) }
+// Is this descriptor the end mark of a list?
+fn is_end_mark(descriptor: &[u8; 8]) -> bool
+    ensures { result ≡ is_end_mark descriptor.now }
 {
-    if count < all as u64 {
-        count as usize
-    } else {
-        all
-    }
+    matches!(descriptor, [255, 255, 255, 255, ..])
 }
 
-// Does the end mark of a list stand at an index?
-fn is_end_mark(bytes: &[u8], at: usize) -> bool
-    requires { at + 8 ≤ length bytes.now }
-    ensures { result ≡ is_end_mark (drop at bytes.now) }
+// How many descriptors a list has up to its end mark and with it.
+fn descriptor_count(descriptors: &[[u8; 8]]) -> usize
+    ensures { result ≡ min (position_or_len is_end_mark descriptors.now + 1) (length descriptors.now) }
 {
-    (bytes[at] == 255) & (bytes[at + 1] == 255) & (bytes[at + 2] == 255) & (bytes[at + 3] == 255)
-}
-
-// The descriptors of a list up to its end mark.
-fn descriptor_count(bytes: &[u8]) -> usize
-    ensures value { result ≡ descriptor_count (length bytes.now / 8) bytes.now }
-    ensures result_in_bounds { 8 * result ≤ length bytes.now }
-{
-    let most = bytes.len() / 8;
-    for i in 0..most {
-        if is_end_mark(bytes, 8 * i) {
-            return i + 1;
-        }
+    match descriptors.iter().position(is_end_mark) {
+        Some(before) => before + 1,
+        None => descriptors.len(),
     }
-    most
 }
 
 fn print_words(count: Adus, words: &[u64], out: &mut [u8]) -> usize
     ensures { Prints (ok_line (counted_words count words.now)) out.old result out.new }
 {
-    let n = at_most(count.0, words.len());
-    words_line(&words[..n], out)
+    let n = count.0.min(words.len() as u64) as usize;
+    list_line(b"ok", &words[..n], out)
 }
 
 fn print_bytes(count: u64, bytes: &[u8], out: &mut [u8]) -> usize
     ensures { Prints (ok_line (spaced (bytes_text (take count bytes.now)))) out.old result out.new }
 {
-    let n = at_most(count, bytes.len());
-    bytes_line(&bytes[..n], out)
+    let n = count.min(bytes.len() as u64) as usize;
+    list_line(b"ok ", &bytes[..n], out)
+}
+
+// The descriptors of a list, with its end mark.
+fn print_descriptors(bytes: &[u8], out: &mut [u8]) -> usize
+    ensures { Prints (ok_line (listed_text bytes.now)) out.old result out.new }
+{
+    let (descriptors, _) = bytes.as_chunks::<8>();
+    let n = descriptor_count(descriptors);
+    list_line(b"ok", &descriptors[..n], out)
 }
 
 // Success, with what the command has filled.
@@ -60,14 +54,11 @@ fn print_filled(command: Command, words: &[u64], bytes: &[u8], out: &mut [u8]) -
     ensures { Prints (ok_line (filled_text command words.now bytes.now)) out.old result out.new }
 {
     match command {
-        Command::WriteByPlacement { count, .. } => print_words(count, words, out),
-        Command::WriteByBlock { count, .. } => print_words(count, words, out),
-        Command::Read { count, .. } => print_words(count, words, out),
+        Command::WriteByPlacement { count, .. }
+        | Command::WriteByBlock { count, .. }
+        | Command::Read { count, .. } => print_words(count, words, out),
         Command::Page { .. } => print_bytes(256, bytes, out),
-        Command::List { .. } => {
-            let count = descriptor_count(bytes);
-            descriptors_line(bytes, count, out)
-        }
+        Command::List { .. } => print_descriptors(bytes, out),
         _ => ok_line(out),
     }
 }
@@ -95,8 +86,7 @@ pub fn print_answer(
 {
     match answer {
         Answer::Done => print_filled(command, words, bytes, out),
-        Answer::Block(_) => print_outcome(answer, out),
-        Answer::Refused(_) => print_outcome(answer, out),
+        Answer::Block(_) | Answer::Refused(_) => print_outcome(answer, out),
     }
 }
 
@@ -106,12 +96,12 @@ pub fn print_samples(answer: Answer, count: Adus, words: &[u64], out: &mut [u8])
 {
     match answer {
         Answer::Done => print_words(count, words, out),
-        Answer::Block(_) => print_outcome(answer, out),
-        Answer::Refused(_) => print_outcome(answer, out),
+        Answer::Block(_) | Answer::Refused(_) => print_outcome(answer, out),
     }
 }
 
 // The line for an address that was made or taken apart: its number, and how many bytes success fills.
+// (No Result: the number is that of the C interface, 0 for success, and the definition `address_line` holds it.)
 pub fn print_address(number: u64, filled: u64, bytes: &[u8], out: &mut [u8]) -> usize
     ensures { Prints (address_line number filled bytes.now) out.old result out.new }
 {

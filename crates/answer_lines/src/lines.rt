@@ -1,20 +1,20 @@
 // Whole lines at the front of a buffer. A function answers the line's length, and 0 where the buffer
-// is too short for it, which then is as it was.
-ghost use Rattle.std.specs.Prelude.{[], ◌≡◌, ◌+◌, ◌*◌, ◌≤◌, leb, length};
+// is too short for it, which then is as it was. (No Option: the clause `Prints` of the crate's public
+// functions holds the 0.)
+ghost use Rattle.std.specs.Prelude.{[], All, ◌≡◌, ◌+◌, ◌++◌, ◌*◌, ◌≤◌, flat_map, leb, length};
 ghost use Rattle.answer_lines.specs.Lines.{Prints, number_line, ok_line};
-ghost use Rattle.answer_lines.specs.Texts.{bytes_text, descriptors_text, spaced, words_text};
+ghost use Rattle.script_lines.specs.Words.{ascii};
 
-use crate::puts::{put_bytes, put_descriptors, put_text, put_words};
+use crate::puts::{Piece, put_all, put_text};
 
 // Are there so many bytes, and room behind them for so many pieces of a width?
 fn has_room(room: usize, bytes: usize, pieces: usize, width: usize) -> bool
-    requires { 1 ≤ width }
     ensures { result ≡ leb (bytes + pieces * width) room }
 {
-    if room < bytes {
-        return false;
+    match pieces.checked_mul(width) {
+        Some(wide) => wide <= room && bytes <= room - wide,
+        None => false,
     }
-    pieces <= (room - bytes) / width
 }
 
 pub fn ok_line(out: &mut [u8]) -> usize
@@ -26,35 +26,15 @@ pub fn ok_line(out: &mut [u8]) -> usize
     put_text(out, 0, b"ok\n")
 }
 
-pub fn words_line(words: &[u64], out: &mut [u8]) -> usize
-    ensures { Prints (ok_line (words_text words.now)) out.old result out.new }
+// A name with all pieces behind it.
+pub fn list_line<P: Piece>(name: &[u8], pieces: &[P], out: &mut [u8]) -> usize
+    requires name { length name.now ≤ 16 }
+    requires width { All (λ piece. length (P.text piece) ≡ P.WIDTH) pieces.now }
+    ensures { Prints (name.now ++ (flat_map P.text pieces.now ++ ascii "\n")) out.old result out.new }
 {
-    if has_room(out.len(), 3, words.len(), 17) {
-        let begin = put_text(out, 0, b"ok");
-        let end = put_words(out, begin, words);
-        return put_text(out, end, b"\n");
-    }
-    0
-}
-
-pub fn bytes_line(bytes: &[u8], out: &mut [u8]) -> usize
-    ensures { Prints (ok_line (spaced (bytes_text bytes.now))) out.old result out.new }
-{
-    if has_room(out.len(), 4, bytes.len(), 2) {
-        let begin = put_text(out, 0, b"ok ");
-        let end = put_bytes(out, begin, bytes);
-        return put_text(out, end, b"\n");
-    }
-    0
-}
-
-pub fn descriptors_line(bytes: &[u8], count: usize, out: &mut [u8]) -> usize
-    requires { 8 * count ≤ length bytes.now }
-    ensures { Prints (ok_line (descriptors_text count bytes.now)) out.old result out.new }
-{
-    if has_room(out.len(), 3, count, 17) {
-        let begin = put_text(out, 0, b"ok");
-        let end = put_descriptors(out, begin, bytes, count);
+    if has_room(out.len(), name.len() + 1, pieces.len(), P::WIDTH) {
+        let begin = put_text(out, 0, name);
+        let end = put_all(out, begin, pieces);
         return put_text(out, end, b"\n");
     }
     0

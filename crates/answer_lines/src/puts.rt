@@ -1,15 +1,7 @@
 // Pieces of a line, put into a buffer at an index. Each function answers the index behind its piece.
-ghost use Rattle.std.specs.Prelude.{◌≡◌, ◌+◌, ◌*◌, ◌≤◌, length};
-ghost use Rattle.answer_lines.specs.Texts.{bytes_text, descriptors_text, hex_byte, hex_word, put, words_text};
-
-fn copy(part: &mut [u8], from: &[u8])
-    requires { length part.old ≡ length from.now }
-    ensures { part.new ≡ from.now }
-{
-    for i in 0..from.len() {
-        part[i] = from[i];
-    }
-}
+ghost use Rattle.std.specs.Prelude.{ℕ, List, ◌≡◌, ◌+◌, ◌*◌, ◌^◌, ◌<◌, ◌≤◌, length, flat_map};
+ghost use Rattle.io.specs.Digits.{last_digits};
+ghost use Rattle.answer_lines.specs.Texts.{hex_byte, put, spaced_bytes, spaced_word};
 
 pub fn put_text(out: &mut [u8], at: usize, text: &[u8]) -> usize
     requires { at + length text.now ≤ length out.old }
@@ -17,69 +9,87 @@ pub fn put_text(out: &mut [u8], at: usize, text: &[u8]) -> usize
     ensures value { result ≡ at + length text.now }
 {
     let end = at + text.len();
-    copy(&mut out[at..end], text);
+    out[at..end].copy_from_slice(text);
     end
 }
 
-fn put_hex_word(out: &mut [u8], at: usize, word: u64) -> usize
-    requires { at + 16 ≤ length out.old }
-    ensures out_after { out.new ≡ put at (hex_word word) out.old }
-    ensures value { result ≡ at + 16 }
+// So many hexadecimal digits, which hold the number.
+fn put_hex(out: &mut [u8], at: usize, n: u64, width: usize) -> usize
+    requires width { (1 ≤ width) × (width ≤ 16) }
+    requires holds { n < 16 ^ width }
+    requires room { at + width ≤ length out.old }
+    ensures out_after { out.new ≡ put at (last_digits 16 width n) out.old }
+    ensures value { result ≡ at + width }
 {
     let mut digits = [0; 16];
-    let k = io::hex(word, 16, &mut digits);
+    let k = io::hex(n, width, &mut digits);
     put_text(out, at, &digits[..k])
 }
 
-fn put_hex_byte(out: &mut [u8], at: usize, byte: u8) -> usize
-    requires { at + 2 ≤ length out.old }
-    ensures out_after { out.new ≡ put at (hex_byte byte) out.old }
-    ensures value { result ≡ at + 2 }
-{
-    let mut digits = [0; 16];
-    let k = io::hex(byte as u64, 2, &mut digits);
-    put_text(out, at, &digits[..k])
+// What a line lists, one after the other. The text of each has the same length.
+pub trait Piece {
+    ghost text: { Self → List ℕ };
+
+    ghost WIDTH: { ℕ };
+
+    const WIDTH: usize;
+
+    fn put(&self, out: &mut [u8], at: usize) -> usize
+        requires { at + WIDTH ≤ length out.old }
+        ensures out_after { out.new ≡ put at (text self.now) out.old }
+        ensures value { result ≡ at + WIDTH }
+        ensures width { length (text self.now) ≡ WIDTH };
 }
 
-// Each word in hexadecimal, behind a space.
-pub fn put_words(out: &mut [u8], at: usize, words: &[u64]) -> usize
-    requires { at + 17 * length words.now ≤ length out.old }
-    ensures out_after { out.new ≡ put at (words_text words.now) out.old }
-    ensures value { result ≡ at + 17 * length words.now }
-{
-    let mut end = at;
-    for i in 0..words.len() {
-        let begin = put_text(out, end, b" ");
-        end = put_hex_word(out, begin, words[i]);
+// A word in hexadecimal, behind a space.
+impl Piece for u64 {
+    ghost text = { spaced_word };
+
+    ghost WIDTH = { 17 };
+
+    const WIDTH: usize = 17;
+
+    fn put(&self, out: &mut [u8], at: usize) -> usize {
+        let begin = put_text(out, at, b" ");
+        put_hex(out, begin, *self, 16)
     }
-    end
 }
 
-// The bytes in hexadecimal, one after the other.
-pub fn put_bytes(out: &mut [u8], at: usize, bytes: &[u8]) -> usize
-    requires { at + 2 * length bytes.now ≤ length out.old }
-    ensures out_after { out.new ≡ put at (bytes_text bytes.now) out.old }
-    ensures value { result ≡ at + 2 * length bytes.now }
-{
-    let mut end = at;
-    for i in 0..bytes.len() {
-        end = put_hex_byte(out, end, bytes[i]);
+// A byte in hexadecimal.
+impl Piece for u8 {
+    ghost text = { hex_byte };
+
+    ghost WIDTH = { 2 };
+
+    const WIDTH: usize = 2;
+
+    fn put(&self, out: &mut [u8], at: usize) -> usize {
+        put_hex(out, at, u64::from(*self), 2)
     }
-    end
 }
 
-// So many groups of eight bytes, each behind a space.
-pub fn put_descriptors(out: &mut [u8], at: usize, bytes: &[u8], count: usize) -> usize
-    requires { (8 * count ≤ length bytes.now) × (at + 17 * count ≤ length out.old) }
-    ensures out_after { out.new ≡ put at (descriptors_text count bytes.now) out.old }
-    ensures value { result ≡ at + 17 * count }
+// A descriptor, byte by byte, behind a space.
+impl Piece for [u8; 8] {
+    ghost text = { spaced_bytes };
+
+    ghost WIDTH = { 17 };
+
+    const WIDTH: usize = 17;
+
+    fn put(&self, out: &mut [u8], at: usize) -> usize {
+        let begin = put_text(out, at, b" ");
+        put_all(out, begin, self)
+    }
+}
+
+pub fn put_all<P: Piece>(out: &mut [u8], at: usize, pieces: &[P]) -> usize
+    requires { at + P.WIDTH * length pieces.now ≤ length out.old }
+    ensures out_after { out.new ≡ put at (flat_map P.text pieces.now) out.old }
+    ensures value { result ≡ at + P.WIDTH * length pieces.now }
 {
     let mut end = at;
-    for i in 0..count {
-        let from = 8 * i;
-        let to = from + 8;
-        let begin = put_text(out, end, b" ");
-        end = put_bytes(out, begin, &bytes[from..to]);
+    for piece in pieces {
+        end = piece.put(out, end);
     }
     end
 }

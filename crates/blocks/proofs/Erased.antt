@@ -1,5 +1,6 @@
 -- What Erase is asked, the block that it opens, that it may, and what it then hands back.
-use Prim.Native.Nat.{ℕ, ◌+◌, ◌<◌}
+use Rattle.std.specs.Prelude as std
+use Prim.Native.Nat.{ℕ, ◌+◌, ◌<◌, min}
 use mathlib.Core.Bool.{true, false}
 use mathlib.Core.List.{List, []}
 use mathlib.Core.Option.{Option, none, some}
@@ -7,12 +8,15 @@ use mathlib.Core.Path.{◌≡◌, refl, sym, ap, subst, ◌∙◌}
 use lib.Dec.{eqb}
 use lib.ListN.{length}
 use borrow.Author.Tests.{leb-true, ltb-true}
+use Rattle.buffers.proofs.Stretches.{Stretch, stretch}
 use Rattle.blocks.specs.Erasing.{block_questions, erase_questions, erased_of}
 use Rattle.blocks.specs.Opening.{MayOpenFor}
 use Rattle.geometry.proofs.Laws.Questions.{positive}
 use Rattle.geometry.proofs.Laws.Shape.{by_test}
 use Rattle.geometry.specs.Address.{is_block, is_domain_id}
 use Rattle.geometry.specs.Questions.{first_no, success}
+use Rattle.geometry.specs.Shape.{adus_per_block, counted, stretch_start}
+use Rattle.geometry.specs.declared.shape.Adus.{Adus}
 use Rattle.model.specs.Answers.{outcome_of}
 use Rattle.model.specs.declared.answer.Answer.{Answer}
 use Rattle.model.specs.declared.answer.Answer.TheVariants as given
@@ -30,12 +34,10 @@ use Rattle.rules.specs.Calls.{calling, lending}
 use Rattle.rules.specs.Drive.{Drive, block_at, domain_at, overwritten, size, with_block, with_domain}
 use Rattle.rules.specs.Effects.{Effect, Serves, effect, erasing}
 use Rattle.rules.specs.Questions.{is_erasable, later_questions}
-use Rattle.scan.proofs.Outcomes.{begun_yes}
+use Rattle.scan.proofs.Outcomes.{begun_entries, begun_limits, begun_sound, begun_yes}
 use Rattle.scan.proofs.Seeing.{changed_nothing, changed_opening, sound_limits}
-use Rattle.scan.specs.First.{Begins}
+use Rattle.scan.specs.First.{Begins, FirstPassed}
 use Rattle.scan.specs.Summary.{Sees, SeesBlock, SeesChoice, found_in}
-use Rattle.scan.specs.declared.summary.Found.{Found}
-use Rattle.scan.specs.declared.summary.Found.TheVariants as found
 use Rattle.scan.specs.declared.summary.Summary.{Summary}
 use Rattle.tables.proofs.Answering.{accepted_call, then_verdict}
 use Rattle.tables.specs.Changing.{leaving, opening_change, outcome_served}
@@ -58,14 +60,14 @@ erase_asked t store entries words bytes d n x s b e id =
 -- ---- The block
 
 -- What Erase is to open, with its record.
-abbrev pub Opens : Table → ℕ → Block → Found → Type 0
-Opens t n b found.Nothing = erased_block t n ≡ none
-Opens t n b (found.Block m) = (erased_block t n ≡ some m) × (block_at t m ≡ b)
+abbrev pub Opens : Table → ℕ → Block → std.Option ℕ → Type 0
+Opens t n b std.None = erased_block t n ≡ none
+Opens t n b (std.Some m) = (erased_block t n ≡ some m) × (block_at t m ≡ b)
 
-chosen_opens : (t : Table) (n : ℕ) (b : Block) (f : Found) → eqb n any_block ≡ true → found_in f ≡ chosen_block t
+chosen_opens : (t : Table) (n : ℕ) (b : Block) (f : std.Option ℕ) → eqb n any_block ≡ true → found_in f ≡ chosen_block t
     → ((m : ℕ) → chosen_block t ≡ some m → b ≡ block_at t m) → Opens t n b f
-chosen_opens t n b found.Nothing any same is = rw any (sym same)
-chosen_opens t n b (found.Block m) any same is = (rw any (sym same), sym (is m (sym same)))
+chosen_opens t n b std.None any same is = rw any (sym same)
+chosen_opens t n b (std.Some m) any same is = (rw any (sym same), sym (is m (sym same)))
 
 number_inside : (t : Table) (n : ℕ) → is_erasable t n ≡ true → eqb n any_block ≡ false → n < size t
 number_inside t n range other = ltb-true n (size t) (the_first (is_block t.config n) (eqb n any_block) range other)
@@ -107,6 +109,22 @@ may_open_lem t entries d n x s first pass =
       id = begun_yes 4 t (Erase d n) entries first;
       serial = rw s.same_domain (leb-true ((domain_at t d).last + 1) 4294967295 (yes_in 12 (erase_questions t x d n) refl pass));
     }
+
+-- The stretch of the block that it opens is cut out of the store.
+pub stretch_opened : (t : Table) (d n m : ℕ) (x : Summary) (store : List ℕ) (start capacity : Adus)
+    → Sees t d x → (eqb n any_block ≡ false → SeesBlock t n x) → (eqb n any_block ≡ true → SeesChoice t x)
+    → FirstPassed (Erase d n) (length store) x → first_no (erase_questions t x d n) ≡ 0
+    → erased_of x n ≡ std.Some m
+    → start.0 ≡ counted x.config (stretch_start x.config (min m x.config.blocks)).0
+    → capacity.0 ≡ counted x.config (adus_per_block x.config).0
+    → Stretch x.config store m start.0 capacity.0
+stretch_opened t d n m x store start capacity s b f first pass is starts counts =
+    let k = Erase d n in
+    let range = erase_range t d n x s pass in
+    let found = subst (Opens t n x.block) is (opens t d n x s b f (begun_sound k (length store) x (t, s) first) range) in
+    stretch x.config store m start capacity (begun_limits k (length store) x (t, s) first)
+    (rw s.same_config (opens_inside t n m range found.0))
+    (begun_entries k (length store) x refl (t, s) first) starts counts
 
 erasing_fills : (d : ℕ) (found : Option ℕ) (v : Drive) → (erasing d found v).words ≡ []
 erasing_fills d none v = refl

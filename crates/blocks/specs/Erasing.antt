@@ -1,13 +1,11 @@
 -- What Erase is asked, of what is seen of the table, and the block that it opens.
-use Rattle.std.specs.Prelude.{ℕ, Bool, not, ◌&&◌, ◌||◌, cond, List, [], ◌∷◌, ◌++◌, eqb, ltb}
+use Rattle.std.specs.Prelude.{ℕ, Bool, not, ◌&&◌, ◌||◌, cond, List, [], ◌∷◌, ◌++◌, eqb, ltb, Option, Some}
 use Rattle.geometry.specs.Address.{is_block}
 use Rattle.geometry.specs.Questions.{Question, ask}
 use Rattle.model.specs.declared.table.Table.{Table}
 use Rattle.rules.specs.Blocks.{any_block}
 use Rattle.rules.specs.Counting.{implies}
 use Rattle.rules.specs.Drive.{held_by, is_closed, is_free}
-use Rattle.scan.specs.declared.summary.Found.{Found}
-use Rattle.scan.specs.declared.summary.Found.TheVariants as found
 use Rattle.scan.specs.declared.summary.Summary.{Summary}
 use Rattle.tables.specs.Verdicts.{new_blocks_questions}
 
@@ -36,5 +34,5 @@ erase_questions t x d n =
 -- ---- The block that is opened
 
 -- For FFFFFFFFh the chosen one, if there is one, and else that of the number.
-unfoldable pub erased_of : Summary → ℕ → Found
-erased_of x n = cond (eqb n any_block) x.found (found.Block n)
+unfoldable pub erased_of : Summary → ℕ → Option ℕ
+erased_of x n = cond (eqb n any_block) x.found (Some n)

@@ -9,16 +9,22 @@ ghost use Rattle.rules.specs.Blocks.{all_ones, with_last};
 ghost use Rattle.scan.specs.Summary.{Seen, Sees};
 ghost use Rattle.tables.specs.Verdicts.{new_blocks_questions, verdict_number};
 
-use buffers::{ALL_ONES, put_row};
+use buffers::ALL_ONES;
 use geometry::Config;
 use model::{Block, Domain, Refusal, Way};
 use scan::{Summary, covered_with};
-use tables::{Verdict, ask, reserved_by, serials_left, within_quota};
+use tables::{ask, reserved_by, serials_left, within_quota};
 
 // ---- The questions
 
 // 12 to 14: are there serials, quota and coverage for so many new serials and blocks?
-pub fn new_blocks_verdict(summary: Summary, domain: u64, serials: u32, blocks: u64) -> Verdict
+#[tactic(auto, using(tables::proofs::Refusals::refusal_positive), unfolding(geometry::specs::Questions::first_no))]
+pub fn new_blocks_verdict(
+    summary: Summary,
+    domain: u64,
+    serials: u32,
+    blocks: u64,
+) -> Result<(), Refusal>
     requires seen { Seen domain summary × (summary.sound ≡ true) }
     requires domain_value { (is_domain_id domain ≡ true) × (blocks ≤ 256) }
     ensures { (t : Table) → Sees t domain summary → verdict_number result ≡ first_no (new_blocks_questions t domain serials blocks) }
@@ -26,9 +32,9 @@ pub fn new_blocks_verdict(summary: Summary, domain: u64, serials: u32, blocks: u
     let d = summary.domain;
     let after = summary.held + blocks;
     let covered = covered_with(summary, domain, reserved_by(d), after);
-    ask(serials_left(d, serials), Refusal::Serials)
-        .and(within_quota(d, after), Refusal::Quota)
-        .and(covered, Refusal::Coverage)
+    ask(serials_left(d, serials), Refusal::Serials)?;
+    ask(within_quota(d, after), Refusal::Quota)?;
+    ask(covered, Refusal::Coverage)
 }
 
 // ---- The change
@@ -43,9 +49,7 @@ pub struct Opened {
 fn with_last(domain: Domain, last: u32) -> Domain
     ensures { result ≡ with_last last domain }
 {
-    let mut next = domain;
-    next.last = last;
-    next
+    Domain { last, ..domain }
 }
 
 // A block is opened for the domain, and the entries of its stretch become all ones.
@@ -60,7 +64,7 @@ pub fn opened_for(
     requires { MayOpenFor config owner domain }
     ensures { (result.block ≡ opened domain way (owner.last + 1) config.period block) × (result.owner ≡ with_last (owner.last + 1) owner) × (stretch.new ≡ replicate (length stretch.old) all_ones) }
 {
-    put_row(stretch, ALL_ONES, false);
+    stretch.fill(ALL_ONES);
     let serial = owner.last + 1;
     Opened {
         block: block.opened(domain as u8, way, serial, config.period as u32),

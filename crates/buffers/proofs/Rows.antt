@@ -1,14 +1,12 @@
 -- Rows that are filled from the front, and the parts of a row that are handed on.
 use Prim.Native.Nat.{ℕ, zero, suc, ◌+◌, ◌-◌, ◌/◌, ◌%◌, ◌≤◌, ◌<◌}
-use mathlib.Core.Bool.{false}
 use mathlib.Core.List.{List, ◌++◌, append-nil}
 use mathlib.Core.Path.{◌≡◌, refl, sym, ap, ◌∙◌}
 use native.Mathlib.Numerals.{add-one}
 use native.Mathlib.Omega.{arith}
-use lib.ListN.{drop, get_or, length, length-drop, length-take, replicate, replicate-append-replicate, set, take}
-use lib.Seq.{append_snoc, drop-cons, length-take-le, set_at, take_all, take-suc, take-suc-set}
+use lib.ListN.{drop, get_or, length, length-drop, length-take, set, take}
+use lib.Seq.{append_snoc, drop-cons, set_at, take_all, take-suc-set}
 use Rattle.geometry.specs.Bytes.{little_endian}
-use Rattle.buffers.specs.Rows.{entry_at}
 use Rattle.rules.specs.Counting.{row_to}
 use Rattle.rules.proofs.Counting.{length_row}
 
@@ -24,25 +22,6 @@ unfolding row_to
 row_more f part n l =
     rw (add-one, drop-cons part n 0 l, set_at (row_to f n) (get_or part n 0) (drop (suc n) part) (f n) n (length_row f n))
     (sym (append_snoc (row_to f n) (f n) (drop (suc n) part)))
-
--- The same entry everywhere.
-pub row_same : (first n : ℕ) → row_to (entry_at first false) n ≡ replicate n first
-unfolding row_to
-row_same first zero = refl
-row_same first (suc n) =
-    rw (row_same first n) (replicate-append-replicate n 1 first ∙ ap (λ (k : ℕ). replicate k first) (add-one n))
-
--- One entry more is copied, behind the first n.
-pub copy_more : (from part : List ℕ) (n : ℕ) → n < length from → n < length part
-    → set (take n from ++ drop n part) n (get_or from n 0) ≡ take (n + 1) from ++ drop (n + 1) part
-copy_more from part n l k =
-    rw (
-      add-one,
-      drop-cons part n 0 k,
-      take-suc from n 0 l,
-      set_at (take n from) (get_or part n 0) (drop (suc n) part) (get_or from n 0) n (length-take-le n from (omega arith)),
-    )
-    (sym (append_snoc (take n from) (get_or from n 0) (drop (suc n) part)))
 
 -- One byte more: the first of those that are left joins those that stand.
 pub byte_more : (k n i rest : ℕ) (part : List ℕ) → i < length part → length part ≡ k

@@ -1,34 +1,16 @@
 // Rows and numbers into a stretch of a lent buffer, which is handed on as that part alone.
-ghost use Rattle.std.specs.Prelude.{true, ◌≡◌, ◌+◌, ◌≤◌, length};
-ghost use Rattle.buffers.specs.Rows.{entry_at};
+ghost use Rattle.std.specs.Prelude.{◌≡◌, ◌+◌, ◌≤◌, length};
 ghost use Rattle.geometry.specs.Bytes.{little_endian};
 ghost use Rattle.rules.specs.Counting.{row_to};
 ghost use Rattle.rules.specs.Drive.{overwritten};
 
-// The same entry everywhere, or entries that rise by one.
-fn entry(first: u64, rises: bool, i: u64) -> u64
-    requires { rises ≡ true → first + i ≤ 18446744073709551615 }
-    ensures { result ≡ entry_at first rises i }
+// Entries that rise by one, from the part's first to its last.
+pub fn put_rising(part: &mut [u64], first: u64)
+    requires { first + length part.old ≤ 18446744073709551616 }
+    ensures { part.new ≡ row_to (λ i. first + i) (length part.old) }
 {
-    if rises { first + i } else { first }
-}
-
-// A part that is filled from its first entry to its last.
-pub fn put_row(part: &mut [u64], first: u64, rises: bool)
-    requires { rises ≡ true → first + length part.old ≤ 18446744073709551616 }
-    ensures { part.new ≡ row_to (entry_at first rises) (length part.old) }
-{
-    for i in 0..part.len() {
-        part[i] = entry(first, rises, i as u64);
-    }
-}
-
-fn copy(part: &mut [u64], from: &[u64])
-    requires { length part.old ≡ length from.now }
-    ensures { part.new ≡ from.now }
-{
-    for i in 0..from.len() {
-        part[i] = from[i];
+    for (i, entry) in part.iter_mut().enumerate() {
+        *entry = first + i as u64;
     }
 }
 
@@ -37,18 +19,18 @@ pub fn put_stretch(row: &mut [u64], part: &[u64])
     requires { length part.now ≤ length row.old }
     ensures { row.new ≡ overwritten 0 part.now row.old }
 {
-    let count = part.len();
-    copy(&mut row[0..count], part);
+    row[..part.len()].copy_from_slice(part);
 }
 
-// The low bytes of a number, the lowest first, as many as there is room for.
+// The low bytes of a number, the lowest first, as many as there is room for. No `to_le_bytes`: a field may be longer than
+// 8 bytes.
 fn put_bytes(part: &mut [u8], n: u64)
     ensures { part.new ≡ little_endian (length part.old) n }
 {
     let mut rest = n;
-    for i in 0..part.len() {
-        part[i] = (rest % 256) as u8;
-        rest = rest / 256;
+    for byte in part.iter_mut() {
+        *byte = (rest % 256) as u8;
+        rest /= 256;
     }
 }
 
@@ -57,6 +39,5 @@ pub fn put_field(bytes: &mut [u8], at: usize, width: usize, n: u64)
     requires { at + width ≤ length bytes.old }
     ensures { bytes.new ≡ overwritten at (little_endian width n) bytes.old }
 {
-    let end = at + width;
-    put_bytes(&mut bytes[at..end], n);
+    put_bytes(&mut bytes[at..at + width], n);
 }

@@ -5,5 +5,5 @@
 mod fills;
 mod user_addresses;
 
-pub use fills::{put_field, put_row, put_stretch};
+pub use fills::{put_field, put_rising, put_stretch};
 pub use user_addresses::{ALL_ONES, all_match, user_address, user_addresses_fit};

@@ -5,6 +5,7 @@ ghost use Rattle.rules.specs.Questions.{user_addresses_fit};
 
 use geometry::Adus;
 
+// The command set's own user address for an ADU that none was written to.
 pub const ALL_ONES: u64 = 0xffff_ffff_ffff_ffff;
 
 // 8. No LBA passes 2^40 - 1 and no user address is all ones, unless the start is.
@@ -33,8 +34,8 @@ pub fn all_match(part: &[u64], expected: u64) -> bool
         return true;
     }
     let mut same = true;
-    for i in 0..part.len() {
-        same = same & (part[i] == user_address(expected, i as u64));
+    for (i, &entry) in part.iter().enumerate() {
+        same &= entry == user_address(expected, i as u64);
     }
     same
 }

@@ -3,7 +3,7 @@ use geometry::Config;
 use model::Table;
 use tables::{clear_block, clear_domain};
 
-#[derive(Clone, Copy)]
+#[derive(Clone, Copy, Debug, PartialEq, Eq)]
 pub struct Drive {
     pub table: Table,
     pub store: [u64; 1280],
@@ -11,24 +11,19 @@ pub struct Drive {
     pub bytes: [u8; 2304],
 }
 
-// A table with these numbers and nothing else.
+// A table with this configuration and nothing else. It is not made by the manager, which it is compared with.
 pub fn table_with(config: Config) -> Table {
-    let domain = clear_domain();
-    let domains = [domain; 16];
-    let block = clear_block();
-    let blocks = [block; 256];
     Table {
         config,
-        domains,
-        blocks,
+        domains: [clear_domain(); 16],
+        blocks: [clear_block(); 256],
     }
 }
 
-// A drive with these numbers and nothing else.
+// A drive with this configuration and nothing else.
 pub fn drive_with(config: Config) -> Drive {
-    let table = table_with(config);
     Drive {
-        table,
+        table: table_with(config),
         store: [0; 1280],
         words: [0; 264],
         bytes: [0; 2304],

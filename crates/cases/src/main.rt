@@ -3,8 +3,9 @@
 // fails.
 #![tactic(auto)]
 
+mod desk;
 mod script;
 
-fn main() {
-    script::run();
+fn main(rt: HostRuntime) {
+    script::run(&rt, &mut rt.stdin());
 }

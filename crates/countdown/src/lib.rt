@@ -11,10 +11,7 @@ use model::Block;
 pub fn count_down(blocks: &mut [Block], seconds: u32)
     ensures { blocks.new ≡ map (counted_down seconds) blocks.old }
 {
-    let mut i = 0;
-    while i < blocks.len() {
-        let block = blocks[i];
-        blocks[i] = block.counted_down(seconds);
-        i += 1;
+    for block in blocks.iter_mut() {
+        *block = block.counted_down(seconds);
     }
 }

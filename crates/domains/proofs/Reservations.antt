@@ -7,6 +7,7 @@ use native.Mathlib.Omega.{arith}
 use lib.Dec.{leb}
 use lib.ListN.{length}
 use borrow.Author.Tests.{leb-true}
+use Rattle.std.specs.Prelude.{Err}
 use Rattle.domains.specs.Reserving.{changed_from, create_range, reserved}
 use Rattle.geometry.proofs.Laws.Shape.{both, by_test, is_between, least_blocks, limits}
 use Rattle.geometry.specs.Address.{is_domain_id}
@@ -82,4 +83,4 @@ reserving_outcome t d c new store words bytes id first then does bytes_are =
     let known : ¬ (d ≡ 0) = λ none. omega (arith, (is_between 1 16 d id).least, none) in
     by_test test
     (λ q. rw q (change_outcome t c Done (domain_change d new) (with_domain d new t) [] store words bytes first (asked ∙ rw q) (changed_domain_lem t d new known) does refl bytes_are))
-    (λ q. rw q (then_outcome t c _ Coverage store words bytes first (sym (asked ∙ rw q)) refl))
+    (λ q. rw q (then_outcome t c (Err Coverage) Coverage store words bytes first (sym (asked ∙ rw q)) refl))

@@ -1,5 +1,5 @@
 // Create and Change Capacity: what a domain reserves.
-ghost use Rattle.std.specs.Prelude.{true, List, ◌≡◌, ℕ, ◌≤◌, max};
+ghost use Rattle.std.specs.Prelude.{true, List, ◌≡◌, ℕ, ◌≤◌};
 ghost use Rattle.domains.specs.Reserving.{changed_from, create_range, reserved};
 ghost use Rattle.geometry.specs.Address.{is_domain_id};
 ghost use Rattle.geometry.specs.Shape.{whole_blocks, within_limits};
@@ -8,13 +8,13 @@ ghost use Rattle.model.specs.declared.table.Table.{Table};
 ghost use Rattle.rules.specs.Domains.{are_plane_counts, created_domain, new_block_count, open_limit};
 ghost use Rattle.scan.specs.First.{FirstPassed};
 ghost use Rattle.scan.specs.Summary.{Seen, Sees};
-ghost use Rattle.tables.specs.Changing.{outcome_served};
+ghost use Rattle.tables.specs.Changing.{outcome_from, outcome_served};
 ghost use Rattle.tables.specs.Serving.{ServesCommand, served};
 
 use geometry::{Config, Planes, drive_planes, whole_blocks};
 use model::{Answer, Domain, Refusal};
 use scan::{Summary, covered_with};
-use tables::{Outcome, domain_change, refusal};
+use tables::{Outcome, ask, domain_change};
 
 fn are_plane_counts(config: Config, guarantee: Planes, quota: Planes) -> bool
     requires { within_limits config ≡ true }
@@ -33,25 +33,19 @@ fn block_count(config: Config, n: Planes) -> u32
     whole_blocks(config, n) as u32
 }
 
-fn larger_count(a: u32, b: u32) -> u32
-    ensures { result ≡ max a b }
-{
-    if a < b { b } else { a }
-}
-
 // A domain's new record is put in its place if the guarantees stay covered.
-fn reserved(summary: Summary, domain: u64, new: Domain) -> Outcome
+fn reserved(summary: Summary, domain: u64, new: Domain) -> Result<Outcome, Refusal>
     requires seen { Seen domain summary × (summary.sound ≡ true) }
     requires domain_value { is_domain_id domain ≡ true }
-    ensures { (t : Table) → Sees t domain summary → result ≡ reserved t domain new }
+    ensures { (t : Table) → Sees t domain summary → outcome_from result ≡ reserved t domain new }
 {
     if covered_with(summary, domain, new.reserved as u64, summary.held) {
-        return Outcome {
+        return Ok(Outcome {
             answer: Answer::Done,
             change: domain_change(domain, new),
-        };
+        });
     }
-    refusal(Refusal::Coverage)
+    Err(Refusal::Coverage)
 }
 
 // ---- Create
@@ -77,6 +71,7 @@ fn open_limit(placements: u64, limit: u64) -> u64
     }
 }
 
+#[tactic(auto, unfolding(rules::specs::Domains::created_domain))]
 fn created_domain(
     config: Config,
     guarantee: Planes,
@@ -90,7 +85,7 @@ fn created_domain(
     ensures { result ≡ created_domain config guarantee quota placements limit }
 {
     let reserved = block_count(config, guarantee);
-    let quota = larger_count(block_count(config, quota), reserved);
+    let quota = block_count(config, quota).max(reserved);
     Domain {
         exists: true,
         reserved,
@@ -109,16 +104,17 @@ pub fn create(
     quota: Planes,
     placements: u64,
     limit: u64,
-) -> Outcome
+) -> Result<Outcome, Refusal>
     requires { Seen domain summary × FirstPassed (Create domain guarantee quota placements limit) 0 summary }
-    ensures { (t : Table) (store words bytes : List ℕ) → Sees t domain summary → ServesCommand t (Create domain guarantee quota placements limit) store words bytes (served (outcome_served t result) store words bytes) }
+    ensures { (t : Table) (store words bytes : List ℕ) → Sees t domain summary → ServesCommand t (Create domain guarantee quota placements limit) store words bytes (served (outcome_served t (outcome_from result)) store words bytes) }
 {
     let config = summary.config;
-    if in_range(config, guarantee, quota, placements, limit) {
-        let new = created_domain(config, guarantee, quota, placements, limit);
-        return reserved(summary, domain, new);
-    }
-    refusal(Refusal::Range)
+    ask(
+        in_range(config, guarantee, quota, placements, limit),
+        Refusal::Range,
+    )?;
+    let new = created_domain(config, guarantee, quota, placements, limit);
+    reserved(summary, domain, new)
 }
 
 // ---- Change Capacity
@@ -135,32 +131,38 @@ fn new_block_count(config: Config, n: Planes, present: u32) -> u32
     }
 }
 
+#[tactic(auto, unfolding(crate::specs::Reserving::changed_from))]
 fn changed_domain(summary: Summary, guarantee: Planes, quota: Planes) -> Domain
     requires config_value { within_limits summary.config ≡ true }
     requires quota_value { are_plane_counts summary.config guarantee quota ≡ true }
     requires held_bound { summary.held ≤ 256 }
     ensures { result ≡ changed_from summary.config summary.domain summary.held guarantee quota }
 {
-    let config = summary.config;
     let present = summary.domain;
     let held = summary.held as u32;
-    let reserved = new_block_count(config, guarantee, present.reserved);
-    let quota = new_block_count(config, quota, present.quota);
-    let mut new = present;
-    new.reserved = reserved;
-    new.quota = larger_count(quota, larger_count(reserved, held));
-    new
+    let reserved = new_block_count(summary.config, guarantee, present.reserved);
+    let quota = new_block_count(summary.config, quota, present.quota);
+    Domain {
+        reserved,
+        quota: quota.max(reserved.max(held)),
+        ..present
+    }
 }
 
 // Another guarantee and quota; 0 keeps the present one, and the quota does not fall below what is held.
-pub fn change_capacity(summary: Summary, domain: u64, guarantee: Planes, quota: Planes) -> Outcome
+pub fn change_capacity(
+    summary: Summary,
+    domain: u64,
+    guarantee: Planes,
+    quota: Planes,
+) -> Result<Outcome, Refusal>
     requires { Seen domain summary × FirstPassed (ChangeCapacity domain guarantee quota) 0 summary }
-    ensures { (t : Table) (store words bytes : List ℕ) → Sees t domain summary → ServesCommand t (ChangeCapacity domain guarantee quota) store words bytes (served (outcome_served t result) store words bytes) }
+    ensures { (t : Table) (store words bytes : List ℕ) → Sees t domain summary → ServesCommand t (ChangeCapacity domain guarantee quota) store words bytes (served (outcome_served t (outcome_from result)) store words bytes) }
 {
-    let config = summary.config;
-    if are_plane_counts(config, guarantee, quota) {
-        let new = changed_domain(summary, guarantee, quota);
-        return reserved(summary, domain, new);
-    }
-    refusal(Refusal::Range)
+    ask(
+        are_plane_counts(summary.config, guarantee, quota),
+        Refusal::Range,
+    )?;
+    let new = changed_domain(summary, guarantee, quota);
+    reserved(summary, domain, new)
 }

@@ -1,207 +1,125 @@
 // The drive as it stands, for a person: its shape, a row for each domain, and a map of its blocks.
 #![tactic(auto)]
 
-ghost use Rattle.std.specs.Prelude.{◌≤◌};
-
+use arrayvec::ArrayString;
 use geometry::{Config, adus_per_block, planes_per_block};
-use model::{Block, Domain, State, Table, Way};
-use shown_lines::{say, say_number};
-use tables::is_open;
+use model::{Block, State, Table, Way};
+use shown_lines::say;
+use tables::{is_held, is_open};
 
-fn say_blanks(count: u64) {
-    for _ in 0..count {
-        say(b" ");
+fn show_shape(rt: &impl Print, config: Config) {
+    let Config {
+        pages,
+        dies,
+        planes,
+        adus,
+        blocks,
+        rated,
+        period,
+    } = config;
+    say(
+        rt,
+        format_args!(
+            "shape   pages {pages}, dies {dies}, planes per die {planes}, ADUs per plane {adus}"
+        ),
+    );
+    let width = planes_per_block(config).0;
+    let capacity = adus_per_block(config).0;
+    say(rt, format_args!("block   planes {width}, ADUs {capacity}"));
+    say(
+        rt,
+        format_args!("drive   super blocks {blocks}, rated erases {rated}, open period {period} s"),
+    );
+}
+
+// A row for each domain, from the last to the first, with the coverage of those above it and its own. Coverage may be
+// as much as the drive has blocks.
+fn show_domains(rt: &impl Print, table: &Table) {
+    let most = table.config.blocks;
+    say(
+        rt,
+        format_args!("\ndomain  reserved  quota  held  open  coverage of {most}"),
+    );
+    let blocks = &table.blocks;
+    let mut coverage = 0u64;
+    for (i, record) in table.domains.iter().enumerate().rev() {
+        let domain = i as u64 + 1;
+        let held = blocks.iter().filter(|&&b| is_held(b, domain)).count() as u64;
+        let open = blocks
+            .iter()
+            .filter(|&&b| is_held(b, domain) && is_open(b))
+            .count();
+        let reserved = record.reserved;
+        let quota = record.quota;
+        coverage = coverage.wrapping_add(held.max(u64::from(reserved)));
+        if record.exists {
+            say(
+                rt,
+                format_args!("{domain:>6}{reserved:>10}{quota:>7}{held:>6}{open:>6}{coverage:>10}"),
+            );
+        } else {
+            say(
+                rt,
+                format_args!("{domain:>6}         -      -     -     -{coverage:>10}"),
+            );
+        }
     }
 }
 
-// A number at the right of a column.
-fn say_column(n: u64, width: u64) {
-    let mut digits = [0; 20];
-    let places = io::decimal(n, &mut digits) as u64;
-    if places < width {
-        say_blanks(width - places);
-    }
-    say_number(n);
-}
-
-fn show_shape(config: Config) {
-    say(b"shape   pages ");
-    say_number(config.pages);
-    say(b", dies ");
-    say_number(config.dies);
-    say(b", planes per die ");
-    say_number(config.planes);
-    say(b", ADUs per plane ");
-    say_number(config.adus);
-    say(b"\nblock   planes ");
-    let w = planes_per_block(config);
-    say_number(w.0);
-    say(b", ADUs ");
-    let c = adus_per_block(config);
-    say_number(c.0);
-    say(b"\ndrive   super blocks ");
-    say_number(config.blocks);
-    say(b", rated erases ");
-    say_number(config.rated);
-    say(b", open period ");
-    say_number(config.period);
-    say(b" s\n");
-}
-
-// Coverage may be as much as the drive has blocks.
-fn show_header(config: Config) {
-    say(b"\ndomain  reserved  quota  held  open  coverage of ");
-    say_number(config.blocks);
-    say(b"\n");
-}
-
-fn larger(a: u64, b: u64) -> u64 {
-    if a < b { b } else { a }
-}
-
-// How many blocks each domain holds and has open, by its ID; entry 0 counts the Free ones.
-#[derive(Clone, Copy)]
-struct Counts {
-    held: [u64; 32],
-    opened: [u64; 32],
-}
-
-fn one_if(holds: bool) -> u64 {
-    if holds { 1 } else { 0 }
-}
-
-// Entries that are no blocks of the drive are clear, and have no holder.
-fn counted(table: Table) -> Counts {
-    let mut held = [0; 32];
-    let mut opened = [0; 32];
-    for n in 0..256 {
-        let block = table.blocks[n];
-        let holder = (block.holder % 32) as usize;
-        let others = held[holder];
-        held[holder] = std::num::wrapping_add_u64(others, 1);
-        let before = opened[holder];
-        opened[holder] = std::num::wrapping_add_u64(before, one_if(is_open(block)));
-    }
-    Counts { held, opened }
-}
-
-// The row of a domain, and the coverage with it.
-fn show_domain(record: Domain, held: u64, opened: u64, domain: u64, coverage: u64) -> u64 {
-    let reserved = record.reserved as u64;
-    let sum = std::num::wrapping_add_u64(coverage, larger(reserved, held));
-    say_column(domain, 6);
-    if record.exists {
-        say_column(reserved, 10);
-        say_column(record.quota as u64, 7);
-        say_column(held, 6);
-        say_column(opened, 6);
-    } else {
-        say(b"         -      -     -     -");
-    }
-    say_column(sum, 10);
-    say(b"\n");
-    sum
-}
-
-fn show_domains(table: Table) {
-    let counts = counted(table);
-    let held = counts.held;
-    let opened = counts.opened;
-    let domains = table.domains;
-    let mut sum = 0;
-    for n in 0..16 {
-        let last = 15 - n;
-        let record = domains[last];
-        let domain = last + 1;
-        sum = show_domain(record, held[domain], opened[domain], domain as u64, sum);
-    }
-}
-
-fn state_letter(block: Block) -> u8 {
-    let state = block.state;
-    match state {
-        State::Free => b'.',
-        State::Open(way) => match way {
-            Way::Erase => b'e',
-            Way::Placement(_) => b'w',
-        },
-        State::Closed(_) => b'c',
+fn state_letter(block: &Block) -> char {
+    match block.state {
+        State::Free => '.',
+        State::Open(Way::Erase) => 'e',
+        State::Open(Way::Placement(_)) => 'w',
+        State::Closed(_) => 'c',
     }
 }
 
 // The holder as a hexadecimal digit: 0 for domain 16, and a dot for none.
-fn holder_letter(block: Block) -> u8 {
-    let holder = block.holder;
-    if holder == 0 {
-        return b'.';
-    }
-    let digits = b"0123456789abcdef";
-    let last = (holder % 16) as usize;
-    digits[last]
-}
-
-fn letter(block: Block, holders: bool) -> u8 {
-    if holders {
-        holder_letter(block)
-    } else {
-        state_letter(block)
+fn holder_letter(block: &Block) -> char {
+    match block.holder {
+        0 => '.',
+        holder => char::from(b"0123456789abcdef"[usize::from(holder % 16)]),
     }
 }
 
-// How many of 64 blocks from one on the drive has.
-fn row_length(first: u64, blocks: u64) -> usize
-    ensures { result ≤ 64 }
+// A letter for each block, of which there are 64 at most.
+fn row<F: Fn(&Block) -> char>(blocks: &[Block], letter: F) -> ArrayString<64>
+    requires { F.IsAlwaysCallable letter }
 {
-    if blocks < first {
-        return 0;
+    let mut row = ArrayString::new();
+    for block in blocks {
+        let _ = row.try_push(letter(block));
     }
-    let rest = blocks - first;
-    if rest < 64 { rest as usize } else { 64 }
+    row
 }
 
-// A row of the map, as the states of its blocks or as their holders.
-fn show_row(table: Table, first: u64, holders: bool) {
-    let config = table.config;
-    let count = row_length(first, config.blocks);
-    let mut row = [b' '; 64];
-    for i in 0..count {
-        let n = std::num::wrapping_add_u64(first, i as u64);
-        let block = table.blocks[(n % 256) as usize];
-        row[i] = letter(block, holders);
-    }
-    say(&row[..count]);
-    say(b"\n");
-}
-
-// The rows of 64 blocks from one on: their states, and under them their holders.
-fn show_rows(table: Table, first: u64) {
-    let config = table.config;
-    if first < config.blocks {
-        say_column(first, 6);
-        say(b"  ");
-        show_row(table, first, false);
-        say(b"        ");
-        show_row(table, first, true);
+// The states of the drive's blocks, 64 in a row, and under each row their holders.
+fn show_map(rt: &impl Print, blocks: &[Block]) {
+    say(
+        rt,
+        "\nblocks  . free   e open by erase   w open for write   c closed",
+    );
+    say(
+        rt,
+        "        and under each its holder in hex, 0 for domain 16",
+    );
+    for (i, blocks) in blocks.chunks(64).enumerate() {
+        let first = 64 * i;
+        let states = row(blocks, state_letter);
+        let holders = row(blocks, holder_letter);
+        say(rt, format_args!("{first:>6}  {states}\n        {holders}"));
     }
 }
 
-fn show_map(table: Table) {
-    say(b"\nblocks  . free   e open by erase   w open for write   c closed\n");
-    say(b"        and under each its holder in hex, 0 for domain 16\n");
-    show_rows(table, 0);
-    show_rows(table, 64);
-    show_rows(table, 128);
-    show_rows(table, 192);
-}
-
-pub fn show(table: Table) {
+pub fn show(rt: &impl Print, table: &Table) {
     let config = table.config;
     if config.blocks == 0 {
-        say(b"no drive is started\n");
+        say(rt, "no drive is started");
         return;
     }
-    show_shape(config);
-    show_header(config);
-    show_domains(table);
-    show_map(table);
+    show_shape(rt, config);
+    show_domains(rt, table);
+    let count = config.blocks.min(256) as usize;
+    show_map(rt, &table.blocks[..count]);
 }

@@ -1,108 +1,85 @@
 // Standard input, line by line. A line may begin in one part that is read and end in a later one; the
 // last may lack its newline.
-ghost use Rattle.std.specs.Prelude.{◌≡◌, ◌≤◌, length};
-ghost use Rattle.io.specs.Counts.{IsPrefixLen};
-
+use arrayvec::ArrayVec;
 use console::{answer, no_drive};
 use console_state::Console;
-use script_lines::line_end;
-use shown_lines::tell_too_long;
-use std::io::{Read, Stdin};
+use shown_lines::LineError;
+use std::io::Read;
 
 // The most bytes of a line.
 const LINE: usize = 4096;
 
-// A part of a line behind what is there of it, and how long it then is: more than LINE where that is
-// too long.
-fn gather(line: &mut [u8], filled: usize, part: &[u8]) -> usize {
-    if line.len() < filled {
-        return filled;
-    }
-    let room = line.len() - filled;
-    if room < part.len() {
-        return LINE + 1;
-    }
-    for i in 0..part.len() {
-        line[filled + i] = part[i];
-    }
-    filled + part.len()
+// The drive, and how far its script is read.
+#[derive(Drop)]
+struct Script<'a> {
+    console: Console,
+    store: &'a mut [u64],
+    // What is there of the next line; none where it is too long.
+    line: Option<ArrayVec<u8, LINE>>,
 }
 
-// The line that was gathered is answered, and the next one begins.
-fn ended(console: Console, line: &[u8], store: &mut [u64]) -> Console {
-    let mut next = console;
-    let length = next.length;
-    next.number = std::num::wrapping_add_u64(next.number, 1);
-    next.length = 0;
-    if line.len() < length {
-        tell_too_long(next.number, LINE as u64);
-        return next;
-    }
-    answer(next, &line[..length], store)
-}
-
-// The lines that end in a part of the input.
-fn lines(console: Console, text: &[u8], line: &mut [u8], store: &mut [u64]) -> Console
-    requires { length text.now ≤ 65536 }
-{
-    let mut current = console;
-    let mut at = 0;
-    while at < text.len() {
-        let end = line_end(text, at);
-        let before = current.length;
-        current.length = gather(line, before, &text[at..end]);
-        if end == text.len() {
-            return current;
+impl Script<'_> {
+    // A part of the next line.
+    fn gather(&mut self, part: &[u8]) {
+        if let Some(line) = &mut self.line
+            && line.try_extend_from_slice(part).is_err()
+        {
+            self.line = None;
         }
-        current = ended(current, line, store);
-        at = end + 1;
     }
-    current
-}
 
-// A last line that lacks its newline.
-fn last_line(console: Console, line: &[u8], store: &mut [u64]) {
-    if 0 < console.length {
-        ended(console, line, store);
+    // The line that was gathered is answered, and the next one begins.
+    fn end_line(&mut self, rt: &impl Print) {
+        self.console.number = self.console.number.wrapping_add(1);
+        match &mut self.line {
+            Some(line) => {
+                answer(rt, &mut self.console, line.as_slice(), self.store);
+                line.clear();
+            }
+            None => {
+                self.console.tell(rt, LineError::TooLong(LINE));
+                self.line = Some(ArrayVec::new());
+            }
+        }
+    }
+
+    // A part of the input, with the lines that end in it.
+    fn read(&mut self, rt: &impl Print, text: &[u8]) {
+        for part in text.split_inclusive(|b| *b == b'\n') {
+            match part.strip_suffix(b"\n") {
+                Some(part) => {
+                    self.gather(part);
+                    self.end_line(rt);
+                }
+                None => self.gather(part),
+            }
+        }
+    }
+
+    // The last line may lack its newline.
+    fn end(&mut self, rt: &impl Print) {
+        if !matches!(&self.line, Some(line) if line.is_empty()) {
+            self.end_line(rt);
+        }
     }
 }
 
-// A part of the input, as one read gives it: how many bytes of the buffer it takes, and none where the
-// input ends or cannot be read.
-fn read_some(input: &mut Stdin, text: &mut [u8]) -> usize
-    ensures { IsPrefixLen result text.new }
-{
-    input.read(text).unwrap_or(0)
-}
-
-// Reads to the end of the input.
-fn read_all(input: &mut Stdin, text: &mut [u8], line: &mut [u8], store: &mut [u64])
-    requires { length text.old ≤ 65536 }
-{
-    let mut console = no_drive();
-    let mut turns: u64 = 0xffff_ffff_ffff_ffff;
-    while 0 < turns {
-        let n = read_some(input, text);
+// Answers the lines of an input up to its end, which is also where it cannot be read.
+pub fn run(rt: &impl Print, input: &mut impl Read) {
+    // Memory for the store, whose length alone is of use.
+    let mut store = [0; 262144];
+    let mut text = [0; 65536];
+    let mut script = Script {
+        console: no_drive(),
+        store: &mut store,
+        line: Some(ArrayVec::new()),
+    };
+    for _ in 0..u64::MAX {
+        let n = input.read(&mut text).unwrap_or(0);
         if n == 0 {
-            last_line(console, line, store);
-            return;
+            break;
         }
-        console = lines(console, &text[..n], line, store);
-        turns -= 1;
+        script.read(rt, &text[..n]);
     }
-}
-
-// Memory for the store, whose length alone is of use.
-fn store_memory() -> [u64; 262144]
-    ensures { 262144 ≡ length result }
-{
-    [0; 262144]
-}
-
-pub fn run(stdin: Stdin) {
-    let mut input = stdin;
-    let mut text = io::large_buffer();
-    let mut line = io::buffer();
-    let mut store = store_memory();
-    read_all(&mut input, &mut text, &mut line, &mut store);
+    script.end(rt);
 }

@@ -5,5 +5,5 @@
 mod input;
 
 fn main(rt: HostRuntime) {
-    input::run(rt.stdin());
+    input::run(&rt, &mut rt.stdin());
 }

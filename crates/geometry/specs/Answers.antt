@@ -1,19 +1,13 @@
 -- What making a flash address and taking it apart answer: by value, and into the byte buffer that the C host lends.
-use Rattle.std.specs.Prelude.{ℕ, ◌&&◌, cond, List, [], ◌∷◌, ◌++◌, eqb, leb, length, drop}
+use Rattle.std.specs.Prelude.{ℕ, ◌&&◌, cond, List, [], ◌∷◌, ◌++◌, eqb, leb, length, drop, Result, Ok, Err}
 use Rattle.geometry.specs.Address.{are_elements, elements_of, fields_of, is_block, is_domain_id, is_offset, offset_of, word_of}
 use Rattle.geometry.specs.Bytes.{numbers}
 use Rattle.geometry.specs.Questions.{Outcome, Question, answered, ask, first_no, refusal, success}
 use Rattle.geometry.specs.Shape.{within_limits}
-use Rattle.geometry.specs.declared.address.Created.{Created}
-use Rattle.geometry.specs.declared.address.Created.TheVariants as made
 use Rattle.geometry.specs.declared.address.Elements.{Elements}
 use Rattle.geometry.specs.declared.address.FlashAddress.{FlashAddress}
-use Rattle.geometry.specs.declared.address.Parsed.{Parsed}
-use Rattle.geometry.specs.declared.address.Parsed.TheVariants as taken
 use Rattle.geometry.specs.declared.address.Refusal.{Refusal}
 use Rattle.geometry.specs.declared.address.Refusal.TheVariants.{DomainId, Limits, Output, Range}
-use Rattle.geometry.specs.declared.address.Verdict.{Verdict}
-use Rattle.geometry.specs.declared.address.Verdict.TheVariants.{No, Pass}
 use Rattle.geometry.specs.declared.shape.Config.{Config}
 
 -- The address of a domain, a block and elements.
@@ -92,15 +86,15 @@ number_of DomainId = 4
 number_of Range = 6
 number_of Output = 7
 
-abbrev pub created : Created → Outcome
-created (made.Word word) = success (word ∷ [])
-created (made.Refused r) = refusal (number_of r)
+abbrev pub created : Result ℕ Refusal → Outcome
+created (Ok word) = success (word ∷ [])
+created (Err r) = refusal (number_of r)
 
-abbrev pub parsed : Parsed → Outcome
-parsed (taken.Address a e) = success (seven_numbers a e)
-parsed (taken.Refused r) = refusal (number_of r)
+abbrev pub parsed : Result (FlashAddress × Elements) Refusal → Outcome
+parsed (Ok (a, e)) = success (seven_numbers a e)
+parsed (Err r) = refusal (number_of r)
 
 -- What the crate's own functions hand on: 0 where no question was answered no.
-abbrev pub verdict_number : Verdict → ℕ
-verdict_number Pass = 0
-verdict_number (No r) = number_of r
+abbrev pub verdict_number : Result (Unit {0}) Refusal → ℕ
+verdict_number (Ok _) = 0
+verdict_number (Err r) = number_of r

@@ -11,10 +11,10 @@ mod host;
 mod shape;
 
 pub use address::{
-    Created, Elements, FlashAddress, Parsed, Refusal, create_flash_address, flash_word,
-    is_domain_id, offset_bits, parse_flash_address, word_fields,
+    Elements, FlashAddress, Refusal, create_flash_address, flash_word, is_domain_id, offset_bits,
+    parse_flash_address, word_fields,
 };
-pub use host::{sbm_create_flash_address, sbm_parse_flash_address};
+pub use host::{create_into, parse_into, verdict_number};
 pub use shape::{
     Adus, Config, Planes, adus_per_block, drive_planes, no_config, planes_per_block, store_length,
     stretch_start, whole_blocks, within_limits,

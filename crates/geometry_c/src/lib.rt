@@ -1,9 +1,11 @@
-// The two functions of `geometry` for the C host, under the names that `hosts/c/sbm.h` declares. Each says
-// of itself what the library's function says.
+// The two functions of `geometry` for the C host, under the names that `hosts/c/sbm.h` declares: numbers in, the
+// answer's number out, and the rest in a lent byte buffer. The C interface needs the long rows of numbers.
 #![tactic(auto)]
 
 ghost use Rattle.std.specs.Prelude.{◌≡◌};
 ghost use Rattle.geometry.specs.Answers.{config_of, create_into, elements_given, parse_into, returned};
+
+use geometry::{Config, Elements, verdict_number};
 
 #[unsafe(no_mangle)]
 pub extern "C" fn sbm_create_flash_address(
@@ -24,9 +26,22 @@ pub extern "C" fn sbm_create_flash_address(
 ) -> u64
     ensures { returned result out.new ≡ create_into (config_of pages dies planes adus blocks rated period) domain block (elements_given page die plane adu) out.old }
 {
-    geometry::sbm_create_flash_address(
-        pages, dies, planes, adus, blocks, rated, period, domain, block, page, die, plane, adu, out,
-    )
+    let config = Config {
+        pages,
+        dies,
+        planes,
+        adus,
+        blocks,
+        rated,
+        period,
+    };
+    let elements = Elements {
+        page,
+        die,
+        plane,
+        adu,
+    };
+    verdict_number(geometry::create_into(config, domain, block, elements, out))
 }
 
 #[unsafe(no_mangle)]
@@ -43,5 +58,14 @@ pub extern "C" fn sbm_parse_flash_address(
 ) -> u64
     ensures { returned result out.new ≡ parse_into (config_of pages dies planes adus blocks rated period) word out.old }
 {
-    geometry::sbm_parse_flash_address(pages, dies, planes, adus, blocks, rated, period, word, out)
+    let config = Config {
+        pages,
+        dies,
+        planes,
+        adus,
+        blocks,
+        rated,
+        period,
+    };
+    verdict_number(geometry::parse_into(config, word, out))
 }

@@ -12,7 +12,6 @@ use Rattle.model.specs.declared.block.Block.{Block}
 use Rattle.rules.proofs.Counting.{by_eq}
 use Rattle.rules.specs.Drive.{clear_block}
 use Rattle.scan.specs.Marks.{chain_before, chain_differs, chain_differs_in, mark, same_serial}
-use Rattle.scan.specs.Scan.{chain_passes}
 
 -- A chain leads to smaller numbers.
 chain_falls : (m : List ℕ) (at : ℕ) → 0 < at → chain_before m at < at
@@ -61,12 +60,6 @@ module _ (bs : List Block) (m : List ℕ) (b : Block) where
       → chain_differs bs m b at ≡ chain_differs bs m b (chain_before m at)
   chain_other at l k e = chain_next at l ∙ rw (le-ltb (length bs) at k, e) refl
 
-  -- What `chain_passes` tells: 257 is no chain, and 0 is one of no block.
-  pub passes_none : (last : ℕ) → last ≡ 257 → chain_passes bs m b last ≡ false
-  passes_none last e = rw (eq-eqb last 257 e) refl
-
-  pub passes_on : (last : ℕ) → ¬ (last ≡ 257) → chain_passes bs m b last ≡ chain_differs bs m b last
-  passes_on last ne = rw (ne_eqb last 257 ne) refl
-
-  pub passes_empty : (last : ℕ) → last ≡ 0 → chain_passes bs m b last ≡ true
-  passes_empty last e = passes_on last (λ p. omega (arith, e, p)) ∙ rw e chain_ends
+  -- A chain of no block.
+  pub passes_empty : (last : ℕ) → last ≡ 0 → chain_differs bs m b last ≡ true
+  passes_empty last e = rw e chain_ends

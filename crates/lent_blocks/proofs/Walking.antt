@@ -6,6 +6,7 @@ use mathlib.Core.Path.{◌≡◌, refl, sym, subst}
 use native.Mathlib.Numerals.{add-one}
 use lib.ListN.{drop, get_or, length}
 use lib.Seq.{drop-cons, drop-length}
+use Rattle.std.specs.Prelude.{Option}
 use Rattle.model.specs.declared.block.Block.{Block}
 use Rattle.model.specs.declared.table.Domain.{Domain}
 use Rattle.rules.proofs.Counting.{clash}
@@ -33,7 +34,7 @@ module _ (s : Subject) (rs : List Domain) (bs : List Block) where
   walk_ends us = subst (λ (zs : List Block). Walked s rs bs (length bs) zs true us us) (sym (drop-length bs)) (refl, refl)
 
   -- .. with a block that passes it goes on, ..
-  pub walk_on : (i last : ℕ) (ok : Bool) (us vs ws : List ℕ) → i < length bs → Scanned s i (block_of bs i) (holder_of rs bs i) last us vs
+  pub walk_on : (i : ℕ) (last : Option ℕ) (ok : Bool) (us vs ws : List ℕ) → i < length bs → Scanned s i (block_of bs i) (holder_of rs bs i) last us vs
       → chain_passes bs vs (block_of bs i) last ≡ true → WalkedFrom (i + 1) ok vs ws → WalkedFrom i ok us ws
   unfolding Walked
   walk_on i last ok us vs ws small scanned passes rest =
@@ -46,7 +47,7 @@ module _ (s : Subject) (rs : List Domain) (bs : List Block) where
       )
 
   -- .. and at one that does not it stops.
-  pub walk_stops : (i last : ℕ) (us vs : List ℕ) → i < length bs → Scanned s i (block_of bs i) (holder_of rs bs i) last us vs
+  pub walk_stops : (i : ℕ) (last : Option ℕ) (us vs : List ℕ) → i < length bs → Scanned s i (block_of bs i) (holder_of rs bs i) last us vs
       → chain_passes bs vs (block_of bs i) last ≡ false → WalkedFrom i false us vs
   unfolding Walked
   walk_stops i last us vs small scanned fails =

@@ -1,36 +1,35 @@
 // What is read and changed in lent slices of block records: one record by its number, or all of them in a walk that
 // calls what is proved of one record.
+//
+// Those that count the blocks ask for 256 at most: what is lent are the drive's own, as many as it has, and no array.
 #![tactic(auto)]
 
-ghost use Rattle.std.specs.Prelude.{◌<◌, ◌≤◌, true, List, map, ◌≡◌, get_or, length, set, take};
+ghost use Rattle.std.specs.Prelude.{◌<◌, ◌≤◌, true, List, map, ◌≡◌, get_or, length, set};
 ghost use Rattle.rules.specs.Domains.{freed_if_held};
 ghost use Rattle.rules.specs.Drive.{clear_block, is_free};
 ghost use Rattle.placements.specs.Onwards.{MayGoOn, OpenedNext, WroteOnwards, rest_after_new};
 ghost use Rattle.tables.specs.Changing.{changed_blocks, present_blocks};
-ghost use Rattle.scan.specs.Marks.{mark_count};
 ghost use Rattle.scan.specs.Free.{Chosen, no_candidate};
-ghost use Rattle.scan.specs.Listing.{key_count, listed_from, noted_from};
-ghost use Rattle.scan.specs.Scan.{Walked, chain_passes};
+ghost use Rattle.scan.specs.Listing.{listed_from, noted_from};
+ghost use Rattle.scan.specs.Marks.{chain_differs};
+ghost use Rattle.scan.specs.Scan.{Walked};
 
 use countdown::count_down;
 use geometry::Config;
-use model::{Block, Domain};
+use model::{Block, Domain, Listed};
 use placements::{Filled, Rest, fill_next, nothing_left};
 use scan::{
-    Candidate, Subject, chain_before, choose, holder_index, no_candidate, no_keys, not_sound,
-    note_listed, put_order, same_serial, scan_block,
+    Candidate, Keys, Marks, Subject, choose, holder_index, no_candidate, put_record, record_at,
+    same_serial, scan_block,
 };
 use tables::{Change, clear_block};
 
-// Has no block of a chain, from one on that is counted from 1, the serial of this one? 257 is no chain. Each block
-// leads to one before it.
-fn chain_passes(blocks: &[Block], marks: &[u16], last: usize, block: Block) -> bool
-    requires { (length blocks.now ≤ 256) × (length marks.now ≡ mark_count) }
-    ensures { result ≡ chain_passes blocks.now marks.now block last }
+// Has no block of a chain, from one on that is counted from 1, the serial of this one? Each block leads to one before
+// it.
+fn chain_differs(blocks: &[Block], marks: &Marks, last: usize, block: Block) -> bool
+    requires { length blocks.now ≤ 256 }
+    ensures { result ≡ chain_differs blocks.now marks.now.row block last }
 {
-    if not_sound(last) {
-        return false;
-    }
     let mut at = last;
     while 0 < at {
         if blocks.len() < at {
@@ -40,7 +39,7 @@ fn chain_passes(blocks: &[Block], marks: &[u16], last: usize, block: Block) -> b
         if same_serial(block, other) {
             return false;
         }
-        at = chain_before(marks, at);
+        at = marks.chain_before(at);
     }
     true
 }
@@ -51,86 +50,62 @@ pub fn scan_blocks(
     blocks: &[Block],
     domains: &[Domain],
     subject: Subject,
-    marks: &mut [u16],
+    marks: &mut Marks,
 ) -> bool
-    requires { (length blocks.now ≤ 256) × (length domains.now ≡ 16) × (length marks.old ≡ mark_count) }
-    ensures { Walked subject domains.now blocks.now 0 blocks.now result marks.old marks.new }
+    requires { (length blocks.now ≤ 256) × (length domains.now ≡ 16) }
+    ensures { Walked subject domains.now blocks.now 0 blocks.now result marks.old.row marks.new.row }
 {
-    let mut n = 0;
-    while n < blocks.len() {
-        let block = blocks[n];
-        let at = holder_index(block);
-        let holder = domains[at];
-        let last = scan_block(subject, n, block, holder, marks);
+    for (n, block) in blocks.iter().enumerate() {
+        let holder = domains[holder_index(*block)];
+        let Some(last) = scan_block(&subject, n, *block, holder, marks) else {
+            return false;
+        };
         if 0 < last {
-            if !chain_passes(blocks, marks, last, block) {
+            if !chain_differs(blocks, marks, last, *block) {
                 return false;
             }
         }
-        n += 1;
     }
     true
 }
 
-// The Free block to be opened next, among so many.
-pub fn choose_free(blocks: &[Block], most: usize) -> Candidate
-    requires { (most ≤ length blocks.now) × (length blocks.now ≤ 256) }
-    ensures { Chosen 0 (take most blocks.now) no_candidate result }
+// The Free block to be opened next.
+pub fn choose_free(blocks: &[Block]) -> Candidate
+    requires { length blocks.now ≤ 256 }
+    ensures { Chosen 0 blocks.now no_candidate result }
 {
     let mut best = no_candidate();
-    let mut n = 0;
-    while n < most {
-        let block = blocks[n];
-        best = choose(best, n as u64, block);
-        n += 1;
+    for (n, block) in blocks.iter().enumerate() {
+        best = choose(best, n as u64, *block);
     }
     best
 }
 
-// The keys of those of so many blocks that are listed.
-fn note_blocks(blocks: &[Block], most: usize, subject: Subject, keys: &mut [u64])
-    requires { (most ≤ length blocks.now) × (length blocks.now ≤ 256) × (length keys.old ≡ key_count) }
-    ensures { keys.new ≡ noted_from subject 0 (take most blocks.now) keys.old }
+// The keys of those of the blocks that are listed.
+fn note_blocks(blocks: &[Block], subject: Subject, listed: Listed, keys: &mut Keys)
+    requires { length blocks.now ≤ 256 }
+    ensures { keys.new ≡ noted_from subject listed 0 blocks.now keys.old }
 {
-    let mut n = 0;
-    while n < most {
-        let block = blocks[n];
-        note_listed(subject, n, block, keys);
-        n += 1;
+    for (n, block) in blocks.iter().enumerate() {
+        keys.note_listed(&subject, listed, n, *block);
     }
 }
 
-// What a list tells of so many blocks, in the marks. Of none it tells nothing, and needs no row of keys.
-pub fn gather_list(blocks: &[Block], most: usize, subject: Subject, marks: &mut [u16])
-    requires { (most ≤ length blocks.now) × (length blocks.now ≤ 256) × (length marks.old ≡ mark_count) }
-    ensures { marks.new ≡ listed_from subject 0 (take most blocks.now) marks.old }
+// What a list tells of the blocks, in the marks.
+pub fn gather_list(blocks: &[Block], subject: Subject, listed: Listed, marks: &mut Marks)
+    requires { length blocks.now ≤ 256 }
+    ensures { marks.new.row ≡ listed_from subject listed 0 blocks.now marks.old.row }
 {
-    if 0 < most {
-        let mut keys = no_keys();
-        note_blocks(blocks, most, subject, &mut keys);
-        put_order(&mut keys, marks);
-    }
+    let mut keys = Keys::new();
+    note_blocks(blocks, subject, listed, &mut keys);
+    keys.put_order(marks);
 }
 
 // A block's record; a number past the last has a clear one.
 pub fn block_at(blocks: &[Block], n: u64) -> Block
     ensures { result ≡ get_or blocks.now n clear_block }
 {
-    if n < blocks.len() as u64 {
-        let at = n as usize;
-        return blocks[at];
-    }
-    clear_block()
-}
-
-// A block's new record; a number past the last changes none.
-pub fn put_block(blocks: &mut [Block], n: u64, new: Block)
-    ensures { blocks.new ≡ set blocks.old n new }
-{
-    if n < blocks.len() as u64 {
-        let at = n as usize;
-        blocks[at] = new;
-    }
+    record_at(blocks, n, clear_block())
 }
 
 fn freed_if_held(block: Block, domain: u64) -> Block
@@ -147,22 +122,21 @@ fn freed_if_held(block: Block, domain: u64) -> Block
 pub fn free_held(blocks: &mut [Block], domain: u64)
     ensures { blocks.new ≡ map (freed_if_held domain) blocks.old }
 {
-    let mut i = 0;
-    while i < blocks.len() {
-        let block = blocks[i];
-        blocks[i] = freed_if_held(block, domain);
-        i += 1;
+    for block in blocks.iter_mut() {
+        *block = freed_if_held(*block, domain);
     }
 }
 
 // What a command changes in the blocks.
+#[tactic(auto, unfolding(tables::specs::Changing::changed_blocks))]
 pub fn change_blocks(blocks: &mut [Block], change: Change)
     ensures { blocks.new ≡ changed_blocks change blocks.old }
 {
-    let block = change.block;
-    put_block(blocks, change.number, block);
-    if change.pulses {
-        count_down(blocks, change.seconds);
+    if let Some((n, new)) = change.one {
+        put_record(blocks, n, new);
+    }
+    if let Some(seconds) = change.pulsed {
+        count_down(blocks, seconds);
     }
     if change.frees {
         free_held(blocks, change.domain);
@@ -208,12 +182,12 @@ fn open_next(
     requires { MayGoOn config (length store.old) (length words.old) domain owner rest × (¬ (rest.count.0 ≡ 0)) × (length blocks.old ≡ config.blocks) }
     ensures { ((best : Candidate) × Chosen 0 blocks.old no_candidate best × (result.rest ≡ rest_after_new config best.number rest)) × (¬ (result.rest.count.0 ≡ 0) → MayGoOn config (length store.new) (length words.new) domain result.owner result.rest) × OpenedNext config domain rest blocks.old owner store.old words.old result.rest blocks.new result.owner store.new words.new }
 {
-    let best = choose_free(blocks, blocks.len());
+    let best = choose_free(blocks);
     let n = best.number;
     let block = block_at(blocks, n);
     let filled = fill_chosen(config, domain, owner, rest, n, block, store, words);
     let new = filled.block;
-    put_block(blocks, n, new);
+    put_record(blocks, n, new);
     filled
 }
 

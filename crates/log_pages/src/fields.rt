@@ -11,7 +11,7 @@ fn placement_of(way: Way) -> u64
 {
     match way {
         Way::Erase => 65535,
-        Way::Placement(p) => p as u64,
+        Way::Placement(p) => u64::from(p),
     }
 }
 
@@ -20,8 +20,7 @@ pub(crate) fn placement_field(state: State) -> u64
 {
     match state {
         State::Free => 65535,
-        State::Open(way) => placement_of(way),
-        State::Closed(way) => placement_of(way),
+        State::Open(way) | State::Closed(way) => placement_of(way),
     }
 }
 

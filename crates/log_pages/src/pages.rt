@@ -10,15 +10,15 @@ ghost use Rattle.rules.specs.Drive.{overwritten};
 ghost use Rattle.rules.specs.LogPages.{page};
 ghost use Rattle.scan.specs.First.{FirstPassed};
 ghost use Rattle.scan.specs.Summary.{Seen, Sees, SeesBlock};
-ghost use Rattle.tables.specs.Serving.{ServesCommand, answering, served};
+ghost use Rattle.tables.specs.Serving.{ServesCommand, answer_from, answering, served};
 ghost use Rattle.tables.specs.Verdicts.{verdict_number};
 
 use crate::fields::{placement_field, written_if_open};
 use buffers::put_field;
 use geometry::{Config, adus_per_block};
-use model::{Answer, Block, Refusal};
+use model::{Block, Refusal};
 use scan::Summary;
-use tables::{Verdict, ask, integrity, is_held, state_byte, wear_index};
+use tables::{ask, integrity, is_held, state_byte, wear_index};
 
 // Which block it is and whose.
 fn put_identity(bytes: &mut [u8], number: u64, block: Block)
@@ -50,28 +50,22 @@ fn put_counts(bytes: &mut [u8], config: Config, block: Block)
 }
 
 // 6, 7 and 9.
-fn page_verdict(summary: Summary, domain: u64, block: u64, room: usize) -> Verdict
+#[tactic(auto, using(tables::proofs::Refusals::refusal_positive), unfolding(geometry::specs::Questions::first_no, crate::specs::LogPages::page_questions))]
+fn page_verdict(summary: Summary, domain: u64, block: u64, room: usize) -> Result<(), Refusal>
     ensures { verdict_number result ≡ first_no (page_questions summary domain block room) }
 {
-    let b = summary.block;
-    ask(block < summary.config.blocks, Refusal::Range)
-        .and(256 <= room, Refusal::Output)
-        .and(is_held(b, domain), Refusal::Holder)
+    ask(block < summary.config.blocks, Refusal::Range)?;
+    ask(256 <= room, Refusal::Output)?;
+    ask(is_held(summary.block, domain), Refusal::Holder)
 }
 
 // Super Block Information of a held block, 256 bytes.
-pub fn page(summary: Summary, domain: u64, block: u64, bytes: &mut [u8]) -> Answer
+pub fn page(summary: Summary, domain: u64, block: u64, bytes: &mut [u8]) -> Result<(), Refusal>
     requires { Seen domain summary × FirstPassed (Page domain block) 0 summary }
-    ensures { (t : Table) (store words : List ℕ) → Sees t domain summary → SeesBlock t block summary → ServesCommand t (Page domain block) store words bytes.old (served (answering t result) store words bytes.new) }
+    ensures { (t : Table) (store words : List ℕ) → Sees t domain summary → SeesBlock t block summary → ServesCommand t (Page domain block) store words bytes.old (served (answering t (answer_from result)) store words bytes.new) }
 {
-    match page_verdict(summary, domain, block, bytes.len()) {
-        Verdict::No(reason) => Answer::Refused(reason),
-        Verdict::Pass => {
-            let config = summary.config;
-            let b = summary.block;
-            put_identity(bytes, block, b);
-            put_counts(bytes, config, b);
-            Answer::Done
-        }
-    }
+    page_verdict(summary, domain, block, bytes.len())?;
+    put_identity(bytes, block, summary.block);
+    put_counts(bytes, summary.config, summary.block);
+    Ok(())
 }

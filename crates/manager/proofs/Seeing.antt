@@ -1,7 +1,7 @@
 -- What each command sees of the table that was summarized for it.
 use Prim.Native.Nat.{ℕ, ◌<◌}
 use mathlib.Core.Bool.{Bool, true, false, cond}
-use mathlib.Core.List.{List, []}
+use mathlib.Core.List.{List}
 use mathlib.Core.Path.{◌≡◌, refl, sym, ap, subst, ◌∙◌}
 use lib.Dec.{eqb}
 use lib.ListN.{length, length-replicate}
@@ -9,28 +9,29 @@ use Rattle.geometry.specs.Address.{fields_of}
 use Rattle.geometry.specs.Shape.{within_limits}
 use Rattle.geometry.specs.declared.shape.Config.{Config}
 use Rattle.manager.specs.Answering.{Dispatched, Summarized, SummaryOf}
-use Rattle.manager.specs.Looking.{Looked}
+use Rattle.manager.specs.Looking.{Looked, list_left}
 use Rattle.manager.specs.Subjects.{subject_of, subject_with}
 use Rattle.model.specs.declared.answer.Answer.{Answer}
 use Rattle.model.specs.declared.command.Command.{Command}
 use Rattle.model.specs.declared.command.Command.TheVariants.{ChangeCapacity, Close, Create, Delete, Erase, Free, List as Listing, Page, Pulse, Read}
 use Rattle.model.specs.declared.command.Command.TheVariants.{WriteByBlock, WriteByPlacement}
 use Rattle.model.specs.declared.command.Listed.{Listed}
-use Rattle.model.specs.declared.command.Listed.TheVariants as listed
 use Rattle.model.specs.declared.table.Table.{Table}
 use Rattle.rules.specs.Blocks.{any_block}
 use Rattle.rules.specs.Calls.{domain_of, profile}
 use Rattle.rules.specs.Drive.{block_at, size}
 use Rattle.scan.proofs.Listings.{sees_list}
 use Rattle.scan.proofs.Outcomes.{left_as_is}
+use Rattle.scan.proofs.Passing.{walked_long}
 use Rattle.scan.proofs.Seeing.{sound_limits}
 use Rattle.scan.proofs.Summaries.{summary_as}
 use Rattle.placements.proofs.Accepted.{complete_finishes, complete_may}
 use Rattle.placements.specs.Onwards.{complete_of}
 use Rattle.placements.specs.declared.rest.Partial.{Partial}
-use Rattle.scan.specs.Listing.{listed_from}
 use Rattle.scan.specs.Marks.{mark_count, no_marks}
 use Rattle.scan.specs.Summary.{Sees, SeesBlock, SeesChoice, SeesList, SeesPlacement, SubjectOf, present}
+use Rattle.scan.specs.declared.scan.About.{About}
+use Rattle.scan.specs.declared.scan.About.TheVariants as about
 use Rattle.scan.specs.declared.scan.Subject.{Subject}
 use Rattle.scan.specs.declared.summary.Summary.{Summary}
 use Rattle.tables.specs.Changing.{leaving, outcome_served}
@@ -40,53 +41,51 @@ use Rattle.tables.specs.declared.served.Served.{Served}
 
 -- ---- The subject
 
-with_config : (t : Table) (d : ℕ) (placing : Bool) (n : ℕ) (choosing lists : Bool) (which : Listed)
-    → SubjectOf t (subject_with t.config d placing n choosing lists which)
-with_config t d placing n choosing lists which = record { same_period = refl; same_capacity = λ e. rw e; same_rated = refl }
+with_config : (t : Table) (d : ℕ) (x : About) → SubjectOf t (subject_with t.config d x)
+with_config t d x = record { same_period = refl; same_capacity = λ e. rw e; same_rated = refl }
 
 -- The subject of every command has its numbers from the configuration.
 right_subject : (t : Table) (k : Command) → SubjectOf t (subject_of t.config k)
 unfolding subject_of
-right_subject t (Create d guarantee quota placements limit) = with_config t d false 0 false false listed.Open
-right_subject t (ChangeCapacity d guarantee quota) = with_config t d false 0 false false listed.Open
-right_subject t (Delete d) = with_config t d false 0 false false listed.Open
-right_subject t (Erase d n) = with_config t d false n (eqb n any_block) false listed.Open
-right_subject t (Close d n) = with_config t d false n false false listed.Open
-right_subject t (Free d n) = with_config t d false n false false listed.Open
-right_subject t (WriteByPlacement d p start count) = with_config t d true p false false listed.Open
-right_subject t (WriteByBlock d n start count) = with_config t d false n false false listed.Open
-right_subject t (Read d address count expected) =
-    with_config t d false (cond (within_limits t.config) (fields_of t.config address).block 0) false false listed.Open
-right_subject t (Page d n) = with_config t d false n false false listed.Open
-right_subject t (Listing d which) = with_config t d false 0 false true which
-right_subject t (Pulse seconds) = with_config t 0 false 0 false false listed.Open
+right_subject t (Create d guarantee quota placements limit) = with_config t d about.Domain
+right_subject t (ChangeCapacity d guarantee quota) = with_config t d about.Domain
+right_subject t (Delete d) = with_config t d about.Domain
+right_subject t (Erase d n) = with_config t d (cond (eqb n any_block) about.Chosen (about.Block n))
+right_subject t (Close d n) = with_config t d (about.Block n)
+right_subject t (Free d n) = with_config t d (about.Block n)
+right_subject t (WriteByPlacement d p start count) = with_config t d (about.Placement p)
+right_subject t (WriteByBlock d n start count) = with_config t d (about.Block n)
+right_subject t (Read d address count expected) = with_config t d (about.Block (cond (within_limits t.config) (fields_of t.config address).block 0))
+right_subject t (Page d n) = with_config t d (about.Block n)
+right_subject t (Listing d which) = with_config t d (about.Listed which)
+right_subject t (Pulse seconds) = with_config t 0 about.Domain
 
 -- ---- What is seen
 
 -- A table that was looked at so is summarized so.
-pub looked_summary : (t : Table) (k : Command) (x : Summary) (marks : List ℕ) → length t.blocks ≡ 256 → length marks ≡ mark_count
+pub looked_summary : (t : Table) (k : Command) (x : Summary) (marks : List ℕ) → length t.blocks ≡ 256
     → Looked t.config (subject_of t.config k) (present t) t.domains no_marks x marks → SummaryOf t (subject_of t.config k) x marks
-looked_summary t k x marks all each looked =
+looked_summary t k x marks all looked =
     let s = subject_of t.config k in
     let a = right_subject t k in
     let sums = summary_as {t = t} all looked.gathered in
     record {
       summarizes = sums;
-      entries = each;
-      lists = λ e. sees_list t s x marks a (sums.sees a) all (
+      lists = λ which e. sees_list t s which x marks a (sums.sees a) all (
         looked.marks,
-        looked.entries ∙ length-replicate {A = ℕ} mark_count 0,
-        looked.listed ∙ ap (λ (listing : Bool). listed_from s 0 (cond listing (present t) []) looked.marks) e,
+        walked_long s t.domains (present t) 0 (present t) looked.gathered.ok no_marks looked.marks looked.gathered.walked
+            ∙ length-replicate {A = ℕ} mark_count 0,
+        looked.listed ∙ ap (λ (x : About). list_left x s (present t) looked.marks) e,
       );
     }
 
 -- What is seen of a table, with a subject that is right for it.
 pub record SeenFor (t : Table) (s : Subject) (marks : List ℕ) (r : Summary) : Type 0 where
   pub sees : Sees t s.domain r
-  pub names : s.placing ≡ false → s.choosing ≡ false → SeesBlock t s.number r
-  pub places : s.placing ≡ true → SeesPlacement t s.domain s.number r
-  pub chooses : s.placing ≡ false → s.choosing ≡ true → SeesChoice t r
-  pub lists : s.listing ≡ true → SeesList t s.domain s.listed r marks
+  pub names : (n : ℕ) → s.about ≡ about.Block n → SeesBlock t n r
+  pub places : (p : ℕ) → s.about ≡ about.Placement p → SeesPlacement t s.domain p r
+  pub chooses : s.about ≡ about.Chosen → SeesChoice t r
+  pub lists : (which : Listed) → s.about ≡ about.Listed which → SeesList t s.domain which r marks
 
 pub seen_for : (t : Table) (k : Command) (marks : List ℕ) (r : Summary) → SummaryOf t (subject_of t.config k) r marks → SeenFor t (subject_of t.config k) marks r
 seen_for t k marks r p =
@@ -123,9 +122,16 @@ pub some_seen : (k : Command) (marks : List ℕ) (r : Summary) → Summarized r 
 unfolding Summarized
 some_seen k marks r is = (is.0, seen_for is.0 k marks r is.1)
 
-pub marks_long : (r : Summary) (command : Command) (marks : List ℕ) → Summarized r command marks → length marks ≡ mark_count
-unfolding Summarized
-marks_long r command marks is = is.1.entries
+-- An Erase is about the block that it names, or the one that is chosen where it leaves that to the drive.
+pub erased_named : (t : Table) (d n : ℕ) (marks : List ℕ) (r : Summary) → SeenFor t (subject_of t.config (Erase d n)) marks r
+    → eqb n any_block ≡ false → SeesBlock t n r
+unfolding subject_of
+erased_named t d n marks r s e = s.names n (ap (λ (any : Bool). cond any about.Chosen (about.Block n)) e)
+
+pub erased_chosen : (t : Table) (d n : ℕ) (marks : List ℕ) (r : Summary) → SeenFor t (subject_of t.config (Erase d n)) marks r
+    → eqb n any_block ≡ true → SeesChoice t r
+unfolding subject_of
+erased_chosen t d n marks r s e = s.chooses (ap (λ (any : Bool). cond any about.Chosen (about.Block n)) e)
 
 -- A Read names the block of its address, which is in the limits of a sound table.
 pub sees_read : (t : Table) (d address : ℕ) (r : Summary) → Sees t d r → SeesBlock t (cond (within_limits t.config) (fields_of t.config address).block 0) r

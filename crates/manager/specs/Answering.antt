@@ -1,12 +1,13 @@
 -- What a command's answer is made of: what is seen of the table, and what is changed by it.
-use Rattle.std.specs.Prelude.{ℕ, ◌-◌, true, cond, List, ◌≡◌, eqb, length}
+use Rattle.std.specs.Prelude.{ℕ, ◌-◌, cond, List, ◌≡◌, eqb, length}
 use Rattle.manager.specs.Subjects.{subject_of}
 use Rattle.model.specs.declared.command.Command.{Command}
+use Rattle.model.specs.declared.command.Listed.{Listed}
 use Rattle.model.specs.declared.table.Table.{Table}
 use Rattle.placements.specs.Onwards.{Finishes, MayFinish}
 use Rattle.placements.specs.declared.rest.Partial.{Partial}
-use Rattle.scan.specs.Marks.{mark_count}
 use Rattle.scan.specs.Summary.{SeesList, Summarizes}
+use Rattle.scan.specs.declared.scan.About.TheVariants as about
 use Rattle.scan.specs.declared.scan.Subject.{Subject}
 use Rattle.scan.specs.declared.summary.Summary.{Summary}
 use Rattle.tables.specs.declared.change.Change.{Change}
@@ -14,8 +15,7 @@ use Rattle.tables.specs.declared.change.Change.{Change}
 -- The summary is of this table, for what the subject is about; and the marks tell what it lists.
 pub record SummaryOf (t : Table) (s : Subject) (x : Summary) (marks : List ℕ) : Type 0 where
   pub summarizes : Summarizes t s x
-  pub entries : length marks ≡ mark_count
-  pub lists : s.listing ≡ true → SeesList t s.domain s.listed x marks
+  pub lists : (which : Listed) → s.about ≡ about.Listed which → SeesList t s.domain which x marks
 
 -- Some table is summarized so for the command.
 unfoldable pub Summarized : Summary → Command → List ℕ → Type 0

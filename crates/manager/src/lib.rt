@@ -13,5 +13,5 @@ mod starting;
 mod subjects;
 
 pub use serving::{serve, serve_in};
-pub use starting::{Started, start};
+pub use starting::start;
 pub use tables::Served;

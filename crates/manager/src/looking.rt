@@ -1,19 +1,38 @@
 // What is read of a table for a command.
-ghost use Rattle.std.specs.Prelude.{◌≤◌, cond, ◌≡◌, length};
+ghost use Rattle.std.specs.Prelude.{◌≤◌, ◌≡◌, length};
 ghost use Rattle.manager.specs.Looking.{Looked};
-ghost use Rattle.scan.specs.Marks.{mark_count};
+ghost use Rattle.scan.specs.Free.{Chosen, no_candidate};
+ghost use Rattle.scan.specs.Summary.{record_of};
+ghost use Rattle.scan.specs.declared.scan.About.TheVariants.{Chosen as Choice};
 
 use geometry::Config;
 use lent_blocks::{block_at, choose_free, gather_list, scan_blocks};
 use lent_domains::{domain_at, scan_domains};
 use model::{Block, Domain};
-use scan::{Subject, Summary, block_about, place, summary_of};
+use scan::{
+    About, Candidate, Marks, Subject, Summary, block_about, no_candidate, place, summary_of,
+};
+use tables::clear_block;
 
-// So many, or none.
-fn if_wanted(wanted: bool, blocks: usize) -> usize
-    ensures { result ≡ cond wanted blocks 0 }
+// The Free block to be opened next, where a command is about it; none where it is not.
+fn free_for(blocks: &[Block], about: About) -> Candidate
+    requires { length blocks.now ≤ 256 }
+    ensures { about ≡ Choice → Chosen 0 blocks.now no_candidate result }
 {
-    if wanted { blocks } else { 0 }
+    match about {
+        About::Chosen => choose_free(blocks),
+        _ => no_candidate(),
+    }
+}
+
+// The record of a block; a clear one where there is none.
+fn record_of(blocks: &[Block], number: Option<u64>) -> Block
+    ensures { result ≡ record_of blocks.now number }
+{
+    match number {
+        Some(n) => block_at(blocks, n),
+        None => clear_block(),
+    }
 }
 
 // What the command sees: the scan of the blocks and that of the domains, and what they counted; the records of the
@@ -24,26 +43,22 @@ pub(crate) fn summarize(
     domains: &[Domain],
     config: Config,
     subject: Subject,
-    marks: &mut [u16],
+    marks: &mut Marks,
 ) -> Summary
-    requires { (length blocks.now ≤ 256) × (length domains.now ≡ 16) × (length marks.old ≡ mark_count) }
-    ensures { Looked config subject blocks.now domains.now marks.old result marks.new }
+    requires { (length blocks.now ≤ 256) × (length domains.now ≡ 16) }
+    ensures { Looked config subject blocks.now domains.now marks.old.row result marks.new.row }
 {
     let sound = scan_blocks(blocks, domains, subject, marks);
     let covering = scan_domains(domains, config.blocks, marks);
-    let free = choose_free(blocks, if_wanted(subject.choosing, blocks.len()));
+    let free = free_for(blocks, subject.about);
     let number = block_about(subject, free.number, marks);
-    let block = block_at(blocks, number);
-    let at = place(subject);
-    let domain = domain_at(domains, at);
+    let block = record_of(blocks, number);
+    let domain = domain_at(domains, place(subject));
     let summary = summary_of(
         config, subject, sound, covering, number, domain, block, marks,
     );
-    gather_list(
-        blocks,
-        if_wanted(subject.listing, blocks.len()),
-        subject,
-        marks,
-    );
+    if let About::Listed(listed) = subject.about {
+        gather_list(blocks, subject, listed, marks);
+    }
     summary
 }

@@ -8,9 +8,8 @@ use crate::looking::summarize;
 use crate::subjects::subject_of;
 use geometry::{Config, within_limits};
 use lent_blocks::{change_blocks, write_onwards};
-use lent_domains::put_domain;
 use model::{Answer, Block, Command, Table};
-use scan::no_marks;
+use scan::{Marks, put_record};
 use tables::Served;
 
 // How many blocks the drive has; none outside the limits.
@@ -38,7 +37,7 @@ pub fn serve_in(
     let config = table.config;
     let blocks = present_blocks(config);
     let subject = subject_of(config, command);
-    let mut marks = no_marks();
+    let mut marks = Marks::new();
     let records: &[Block] = &table.blocks;
     let summary = summarize(
         &records[..blocks],
@@ -63,7 +62,7 @@ pub fn serve_in(
         words,
     );
     let place = changed_place(change);
-    put_domain(&mut table.domains, place, new);
+    put_record(&mut table.domains, place, new);
     outcome.answer
 }
 

@@ -5,39 +5,29 @@ ghost use Rattle.rules.specs.Start.{empty_table, started};
 
 use geometry::{Config, no_config, within_limits};
 use model::{Answer, Refusal, Table};
-use tables::{clear_block, clear_domain};
-
-#[derive(Clone, Copy)]
-pub struct Started {
-    pub answer: Answer,
-    pub table: Table,
-}
+use tables::{Served, clear_block, clear_domain};
 
 fn empty_table(config: Config) -> Table
     ensures { result ≡ empty_table config }
 {
-    let domain = clear_domain();
-    let domains = [domain; 16];
-    let block = clear_block();
-    let blocks = [block; 256];
     Table {
         config,
-        domains,
-        blocks,
+        domains: [clear_domain(); 16],
+        blocks: [clear_block(); 256],
     }
 }
 
 // A table without domains, every block Free. A refused start hands back a table of zeros.
-pub fn start(config: Config) -> Started
+pub fn start(config: Config) -> Served
     ensures { begun result ≡ started config }
 {
     if within_limits(config) {
-        return Started {
+        return Served {
             answer: Answer::Done,
             table: empty_table(config),
         };
     }
-    Started {
+    Served {
         answer: Answer::Refused(Refusal::Limits),
         table: empty_table(no_config()),
     }

@@ -1,107 +1,55 @@
 // What each command is about.
 ghost use Rattle.std.specs.Prelude.{◌≡◌};
-ghost use Rattle.manager.specs.Subjects.{by_placement, listing, named, plain, subject_of};
+ghost use Rattle.manager.specs.Subjects.{subject_of, subject_with};
 
 use blocks::ANY_BLOCK;
 use geometry::{Config, adus_per_block, word_fields};
-use model::{Command, Listed};
-use scan::Subject;
+use model::Command;
+use scan::{About, Subject};
 
-// A domain alone, ..
-fn plain(config: Config, domain: u64) -> Subject
-    ensures { result ≡ plain config domain }
+fn subject_with(config: Config, domain: u64, about: About) -> Subject
+    ensures { result ≡ subject_with config domain about }
 {
-    let capacity = adus_per_block(config);
     Subject {
         domain,
-        placing: false,
-        number: 0,
-        choosing: false,
-        listing: false,
-        listed: Listed::Open,
-        capacity,
+        about,
+        capacity: adus_per_block(config),
         period: config.period,
         rated: config.rated,
     }
 }
 
-// .. and a block that is named, or left to the choice, ..
-fn named(config: Config, domain: u64, number: u64, choosing: bool) -> Subject
-    ensures { result ≡ named config domain number choosing }
-{
-    let mut subject = plain(config, domain);
-    subject.number = number;
-    subject.choosing = choosing;
-    subject
-}
-
-// .. or a placement, ..
-fn by_placement(config: Config, domain: u64, placement: u64) -> Subject
-    ensures { result ≡ by_placement config domain placement }
-{
-    let mut subject = named(config, domain, placement, false);
-    subject.placing = true;
-    subject
-}
-
-// .. or a list.
-fn listing(config: Config, domain: u64, listed: Listed) -> Subject
-    ensures { result ≡ listing config domain listed }
-{
-    let capacity = adus_per_block(config);
-    Subject {
-        domain,
-        placing: false,
-        number: 0,
-        choosing: false,
-        listing: true,
-        listed,
-        capacity,
-        period: config.period,
-        rated: config.rated,
-    }
-}
-
+#[tactic(auto, unfolding(crate::specs::Subjects::subject_of))]
 pub(crate) fn subject_of(config: Config, command: Command) -> Subject
     ensures { result ≡ subject_of config command }
 {
     match command {
-        Command::Create {
-            domain,
-            guarantee: _,
-            quota: _,
-            placements: _,
-            limit: _,
-        } => plain(config, domain),
-        Command::ChangeCapacity {
-            domain,
-            guarantee: _,
-            quota: _,
-        } => plain(config, domain),
-        Command::Delete { domain } => plain(config, domain),
-        Command::Erase { domain, block } => named(config, domain, block, block == ANY_BLOCK),
-        Command::Close { domain, block } => named(config, domain, block, false),
-        Command::Free { domain, block } => named(config, domain, block, false),
-        Command::WriteByPlacement {
-            domain,
-            placement,
-            start: _,
-            count: _,
-        } => by_placement(config, domain, placement),
-        Command::WriteByBlock {
-            domain,
-            block,
-            start: _,
-            count: _,
-        } => named(config, domain, block, false),
+        Command::Create { domain, .. }
+        | Command::ChangeCapacity { domain, .. }
+        | Command::Delete { domain } => subject_with(config, domain, About::Domain),
+        Command::Erase { domain, block } if block == ANY_BLOCK => {
+            subject_with(config, domain, About::Chosen)
+        }
+        Command::Erase { domain, block }
+        | Command::Close { domain, block }
+        | Command::Free { domain, block }
+        | Command::WriteByBlock { domain, block, .. }
+        | Command::Page { domain, block } => subject_with(config, domain, About::Block(block)),
         Command::Read {
             domain,
             address,
-            count: _,
-            expected: _,
-        } => { named(config, domain, word_fields(config, address).block, false) }
-        Command::Page { domain, block } => named(config, domain, block, false),
-        Command::List { domain, listed } => listing(config, domain, listed),
-        Command::Pulse { seconds: _ } => plain(config, 0),
+            ..
+        } => subject_with(
+            config,
+            domain,
+            About::Block(word_fields(config, address).block),
+        ),
+        Command::WriteByPlacement {
+            domain,
+            placement,
+            ..
+        } => subject_with(config, domain, About::Placement(placement)),
+        Command::List { domain, listed } => subject_with(config, domain, About::Listed(listed)),
+        Command::Pulse { .. } => subject_with(config, 0, About::Domain),
     }
 }

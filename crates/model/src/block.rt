@@ -4,8 +4,8 @@ ghost use Rattle.model.specs.Blocks.{closed, counted_down, free_block, freed, op
 
 use geometry::Adus;
 
-// How a block was opened.
-#[derive(Clone, Copy)]
+// How a block was opened. No Option: by an erase is a way too.
+#[derive(Clone, Copy, Debug, PartialEq, Eq)]
 pub enum Way {
     Erase,
     // by a nameless write, for a placement ID
@@ -13,17 +13,17 @@ pub enum Way {
 }
 
 // A block that closes remembers its way of opening.
-#[derive(Clone, Copy)]
+#[derive(Clone, Copy, Debug, PartialEq, Eq)]
 pub enum State {
     Free,
     Open(Way),
     Closed(Way),
 }
 
-#[derive(Clone, Copy)]
+#[derive(Clone, Copy, Debug, PartialEq, Eq)]
 pub struct Block {
     pub state: State,
-    // the domain that holds it, 0 for none
+    // the domain that holds it, 0 for none, as a host lends it and a log page tells it: with an Option there would be a holder 0
     pub holder: u8,
     pub written: Adus,
     // seconds until it closes by itself
@@ -34,19 +34,11 @@ pub struct Block {
     pub serial: u32,
 }
 
-// The written count with so many ADUs more, at most the capacity; the sum could wrap.
+// The written count with so many ADUs more, at most the capacity.
 fn filled_to(written: Adus, count: Adus, capacity: Adus) -> Adus
     ensures { result.0 ≡ min (written.0 + count.0) capacity.0 }
 {
-    if capacity.0 <= written.0 {
-        return capacity;
-    }
-    let room = capacity.0 - written.0;
-    if count.0 < room {
-        Adus(written.0 + count.0)
-    } else {
-        capacity
-    }
+    Adus(written.0.saturating_add(count.0).min(capacity.0))
 }
 
 // The record of a Free block, which is clear but for the P/E count.
@@ -68,64 +60,48 @@ impl Block {
     pub fn opened(self, holder: u8, way: Way, serial: u32, period: u32) -> Block
         ensures { result ≡ opened holder way serial period self }
     {
-        let before = self.erases;
-        let erases = if before < 4294967295 {
-            before + 1
-        } else {
-            before
-        };
         Block {
             state: State::Open(way),
             holder,
             written: Adus(0),
             left: period,
-            erases,
+            erases: self.erases.saturating_add(1),
             serial,
         }
     }
 
     // An open block with so many ADUs more, Closed where that makes it full. It takes no more than
     // its capacity, and a block that is not open takes none.
+    #[tactic(auto, unfolding(crate::specs::Blocks::written_on))]
     pub fn written_on(self, count: Adus, capacity: Adus) -> Block
         ensures { result ≡ written_on count capacity self }
     {
-        let state = self.state;
-        match state {
+        match self.state {
             State::Open(_) => {
-                let mut block = self;
-                let before = self.written;
-                let written = filled_to(before, count, capacity);
-                block.written = written;
+                let written = filled_to(self.written, count, capacity);
+                let block = Block { written, ..self };
                 if written.0 < capacity.0 {
                     block
                 } else {
                     block.closed()
                 }
             }
-            State::Closed(_) => self,
-            State::Free => self,
+            _ => self,
         }
     }
 
     // An open block Closed, with no seconds left; any other as it was.
+    #[tactic(auto, unfolding(crate::specs::Blocks::closed))]
     pub fn closed(self) -> Block
         ensures { result ≡ closed self }
     {
-        let state = self.state;
-        match state {
-            State::Open(way) => {
-                let written = self.written;
-                Block {
-                    state: State::Closed(way),
-                    holder: self.holder,
-                    written,
-                    left: 0,
-                    erases: self.erases,
-                    serial: self.serial,
-                }
-            }
-            State::Closed(_) => self,
-            State::Free => self,
+        match self.state {
+            State::Open(way) => Block {
+                state: State::Closed(way),
+                left: 0,
+                ..self
+            },
+            _ => self,
         }
     }
 
@@ -137,23 +113,16 @@ impl Block {
     }
 
     // So many seconds later: an open block has them less, and is Closed where none are left.
+    #[tactic(auto, unfolding(crate::specs::Blocks::counted_down, crate::specs::Blocks::closed))]
     pub fn counted_down(self, seconds: u32) -> Block
         ensures { result ≡ counted_down seconds self }
     {
-        let state = self.state;
-        match state {
-            State::Open(_) => {
-                let left = self.left;
-                if seconds < left {
-                    let mut block = self;
-                    block.left = left - seconds;
-                    block
-                } else {
-                    self.closed()
-                }
-            }
-            State::Closed(_) => self,
-            State::Free => self,
+        match self.state {
+            State::Open(_) if seconds < self.left => Block {
+                left: self.left - seconds,
+                ..self
+            },
+            _ => self.closed(),
         }
     }
 }

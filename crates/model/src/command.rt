@@ -2,7 +2,7 @@
 // command with one out of range is refused.
 use geometry::{Adus, Planes};
 
-#[derive(Clone, Copy)]
+#[derive(Clone, Copy, Debug, PartialEq, Eq)]
 pub enum Command {
     Create {
         domain: u64,
@@ -66,7 +66,7 @@ pub enum Command {
 }
 
 // Which blocks of a domain a List names.
-#[derive(Clone, Copy)]
+#[derive(Clone, Copy, Debug, PartialEq, Eq)]
 pub enum Listed {
     Open,
     Closed,

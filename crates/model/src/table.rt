@@ -2,8 +2,9 @@
 use crate::block::Block;
 use geometry::Config;
 
-#[derive(Clone, Copy)]
+#[derive(Clone, Copy, Debug, PartialEq, Eq)]
 pub struct Domain {
+    // beside the numbers: a host may lend a missing domain with any numbers, which `domain_sound` refuses
     pub exists: bool,
     // the guarantee and the quota, in whole blocks
     pub reserved: u32,
@@ -17,7 +18,7 @@ pub struct Domain {
 }
 
 // Domain d stands at d - 1 and block n at n. Entries at S and above are no blocks of the drive.
-#[derive(Clone, Copy)]
+#[derive(Clone, Copy, Debug, PartialEq, Eq)]
 pub struct Table {
     pub config: Config,
     pub domains: [Domain; 16],

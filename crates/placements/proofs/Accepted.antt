@@ -1,4 +1,5 @@
 -- What a Write by placement may count on once its questions are answered yes, and what it then hands back.
+use Rattle.std.specs.Prelude as std
 use Prim.Native.Nat.{ℕ, ◌+◌, ◌-◌, ◌≤◌, ◌<◌}
 use mathlib.Core.Bool.{true, true≢false}
 use mathlib.Core.List.{List, [], ◌++◌}
@@ -39,7 +40,6 @@ use Rattle.scan.proofs.Outcomes.{begun_yes}
 use Rattle.scan.proofs.Seeing.{limits_seen}
 use Rattle.scan.specs.First.{Begins}
 use Rattle.scan.specs.Summary.{Sees, SeesPlacement, found_in}
-use Rattle.scan.specs.declared.summary.Found.TheVariants as found
 use Rattle.scan.specs.declared.summary.Summary.{Summary}
 use Rattle.tables.proofs.Answering.{accepted_call, then_verdict}
 use Rattle.tables.specs.Changing.{changed_table, outcome_served}
@@ -94,7 +94,7 @@ may_place t entries words d p start count x s q first pass =
     let qs = placement_arguments x words p count ++ placement_state t x d start count in
     let new = blocks_in x.config (count.0 - room_seen x) in
     let counted = is_between 1 256 count.0 (both (ltb p x.domain.placements) (is_count count) (yes_in 6 qs refl pass)).1 in
-    let opened : (n : ℕ) → x.found ≡ found.Block n → open_block t d p ≡ some n = λ n f. sym (q.same_found e) ∙ ap found_in f in
+    let opened : (n : ℕ) → x.found ≡ std.Some n → open_block t d p ≡ some n = λ n f. sym (q.same_found e) ∙ ap found_in f in
     let last : x.domain.last ≡ (domain_at t d).last = ap (λ (r : Domain). r.last) s.same_domain in
     record {
       whole = e;

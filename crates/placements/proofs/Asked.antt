@@ -1,4 +1,5 @@
 -- What a Write by placement is asked, of what is seen of a table, comes to what the rules ask of the table.
+use Rattle.std.specs.Prelude as std
 use Prim.Native.Nat.{ℕ, ◌-◌}
 use mathlib.Core.Bool.{true}
 use mathlib.Core.List.{List, ◌++◌}
@@ -23,19 +24,17 @@ use Rattle.rules.specs.Calls.{lending}
 use Rattle.rules.specs.Drive.{open_block, open_count}
 use Rattle.rules.specs.Questions.{later_questions, may_open_for}
 use Rattle.scan.specs.Summary.{Sees, SeesPlacement, found_in}
-use Rattle.scan.specs.declared.summary.Found.{Found}
-use Rattle.scan.specs.declared.summary.Found.TheVariants as found
 use Rattle.scan.specs.declared.summary.Summary.{Summary}
 use Rattle.tables.specs.Serving.{drive}
 
 module _ (t : Table) (d p : ℕ) (x : Summary) (s : Sees t d x) (q : SeesPlacement t d p x) (e : x.sound ≡ true) where
   -- The room of the open block is the rules', ..
-  room_seen_lem : (o : Found) → x.found ≡ o → room_seen x ≡ room_in t (open_block t d p)
-  room_seen_lem found.Nothing f =
-      ap (λ (o : Found). room_of o x.config x.block) f ∙ sym (ap (room_in t) (sym (q.same_found e) ∙ ap found_in f))
-  room_seen_lem (found.Block n) f =
+  room_seen_lem : (o : std.Option ℕ) → x.found ≡ o → room_seen x ≡ room_in t (open_block t d p)
+  room_seen_lem std.None f =
+      ap (λ (o : std.Option ℕ). room_of o x.config x.block) f ∙ sym (ap (room_in t) (sym (q.same_found e) ∙ ap found_in f))
+  room_seen_lem (std.Some n) f =
       let is_open_lem : open_block t d p ≡ some n = sym (q.same_found e) ∙ ap found_in f in
-      ap (λ (o : Found). room_of o x.config x.block) f
+      ap (λ (o : std.Option ℕ). room_of o x.config x.block) f
       ∙ ap (λ (c : Config). (adus_per_block c).0 - x.block.written.0) s.same_config
       ∙ ap (λ (b : Block). (adus_per_block t.config).0 - b.written.0) (q.found_block e n is_open_lem)
       ∙ sym (ap (room_in t) is_open_lem)
@@ -48,14 +47,14 @@ module _ (t : Table) (d p : ℕ) (x : Summary) (s : Sees t d x) (q : SeesPlaceme
       ∙ sym (new_for_lem t d p count (open_block t d p) refl)
 
   -- .. and whether one may be opened.
-  may_open_seen_lem : is_domain_id d ≡ true → (o : Found) → x.found ≡ o → may_open_seen x ≡ may_open_for (open_block t d p) t d
-  may_open_seen_lem id found.Nothing f =
-      ap (λ (o : Found). may_open_of o x.opened x.domain) f
+  may_open_seen_lem : is_domain_id d ≡ true → (o : std.Option ℕ) → x.found ≡ o → may_open_seen x ≡ may_open_for (open_block t d p) t d
+  may_open_seen_lem id std.None f =
+      ap (λ (o : std.Option ℕ). may_open_of o x.opened x.domain) f
       ∙ ap (λ (opened : ℕ). ltb opened x.domain.limit) (s.opens e id)
       ∙ ap (λ (r : Domain). ltb (open_count t d) r.limit) s.same_domain
       ∙ sym (ap (λ o. may_open_for o t d) (sym (q.same_found e) ∙ ap found_in f))
-  may_open_seen_lem id (found.Block n) f =
-      ap (λ (o : Found). may_open_of o x.opened x.domain) f
+  may_open_seen_lem id (std.Some n) f =
+      ap (λ (o : std.Option ℕ). may_open_of o x.opened x.domain) f
       ∙ sym (ap (λ o. may_open_for o t d) (sym (q.same_found e) ∙ ap found_in f))
 
   pub placement_asked : is_domain_id d ≡ true → (store : List ℕ) (entries words bytes start : ℕ) (count : Adus)

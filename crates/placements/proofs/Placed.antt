@@ -1,4 +1,5 @@
 -- A write by placement: into the open block, if there is one, and what is left from the table that this leaves.
+use Rattle.std.specs.Prelude as std
 use Prim.Native.Nat.{ℕ, zero, suc, ◌+◌, ◌-◌, ◌<◌, min}
 use mathlib.Core.Bool.{true}
 use mathlib.Core.List.{List, [], ◌∷◌}
@@ -10,11 +11,12 @@ use Rattle.geometry.proofs.Laws.Shape.{is_between}
 use Rattle.geometry.specs.Shape.{adus, adus_per_block, within_limits}
 use Rattle.geometry.specs.declared.shape.Config.{Config}
 use Rattle.model.specs.declared.block.Block.{Block}
+use Rattle.model.specs.declared.table.Domain.{Domain}
 use Rattle.model.specs.declared.table.Table.{Table}
 use Rattle.placements.proofs.Stepping.{after_from, and_then, first_config, placed_both, rest_onwards, some_adus}
 use Rattle.placements.proofs.Words.{overwritten_two}
 use Rattle.placements.specs.Onwards.{WentOn, onwards, rest_after, rest_from, rest_written, whole_write}
-use Rattle.placements.specs.Placing.{MayFill, MayPlace, Places, into_table, number_found, room_of, room_seen}
+use Rattle.placements.specs.Placing.{MayFill, MayPlace, Places, into_table, put_change, room_of, room_seen}
 use Rattle.placements.specs.declared.rest.Rest.{Rest}
 use Rattle.rules.proofs.Counting.{length_row}
 use Rattle.rules.proofs.Drive.{overwritten_nothing}
@@ -22,12 +24,10 @@ use Rattle.rules.proofs.Effects.{written_length}
 use Rattle.rules.specs.Blocks.{Written, room_in, user_address, user_addresses, written_by_placement, written_first, written_into}
 use Rattle.rules.specs.Drive.{Drive, block_at, clear_domain, domain_at, open_block, overwritten, with_block, with_domain}
 use Rattle.rules.specs.Questions.{user_addresses_fit}
-use Rattle.scan.proofs.Seeing.{changed_opening, changed_owner}
+use Rattle.scan.proofs.Seeing.{changed_domain_lem, changed_opening}
 use Rattle.scan.specs.Summary.{SeesFound, found_in}
-use Rattle.scan.specs.declared.summary.Found.{Found}
-use Rattle.scan.specs.declared.summary.Found.TheVariants as found
 use Rattle.scan.specs.declared.summary.Summary.{Summary}
-use Rattle.tables.specs.Changing.{changed_table, opening_change}
+use Rattle.tables.specs.Changing.{changed_table}
 use Rattle.tables.specs.Serving.{drive}
 use Rattle.tables.specs.declared.change.Change.{Change}
 use Rattle.transfers.specs.Transfers.{Wrote}
@@ -40,7 +40,7 @@ may_fill x entries d count put m puts = record {
   whole = m.whole;
   all_entries = m.all_entries;
   writes = λ n f.
-      let room : room_seen x ≡ (adus_per_block x.config).0 - x.block.written.0 = ap (λ (o : Found). room_of o x.config x.block) f in
+      let room : room_seen x ≡ (adus_per_block x.config).0 - x.block.written.0 = ap (λ (o : std.Option ℕ). room_of o x.config x.block) f in
       let l = m.open_room n f in
       record {
         limits = m.within;
@@ -52,13 +52,13 @@ may_fill x entries d count put m puts = record {
 }
 
 pub into_none : (d : ℕ) (x : Summary) (o : Option ℕ) (users : List ℕ) (b : Block) (t : Table) (store words : List ℕ) → x.sound ≡ true → SeesFound t o x
-    → x.found ≡ found.Nothing → Wrote (written_first d o users (drive t store)) words (drive (into_table x.found b t) store) words
+    → x.found ≡ std.None → Wrote (written_first d o users (drive t store)) words (drive (into_table x.found b t) store) words
 into_none d x o users b t store words whole s e =
     let is : o ≡ none = sym (s.same_found whole) ∙ ap found_in e in
     rw (is, e) record { leaves = refl; fills = sym (overwritten_nothing words) }
 
 pub into_one : (d n : ℕ) (x : Summary) (o : Option ℕ) (users : List ℕ) (b : Block) (t : Table) (store after words filled : List ℕ) → x.sound ≡ true → SeesFound t o x
-    → x.found ≡ found.Block n
+    → x.found ≡ std.Some n
     → (block_at t n ≡ x.block → Wrote (written_into d n users (drive t store)) words (drive (with_block n b t) after) filled)
     → Wrote (written_first d o users (drive t store)) words (drive (into_table x.found b t) after) filled
 into_one d n x o users b t store after words filled whole s e writes =
@@ -76,28 +76,37 @@ set_own (x ∷ xs) (suc i) d = ap (λ ys. x ∷ ys) (set_own xs i d)
 own_domain_lem : (t : Table) (d : ℕ) → with_domain d (domain_at t d) t ≡ t
 own_domain_lem t d = rw (set_own t.domains (d - 1) clear_domain)
 
+-- Whether there is a block or not, the owner's record is changed.
+pub put_domain : (o : std.Option ℕ) (b : Block) (d : ℕ) (r : Domain) → (put_change o b d r).domain ≡ d
+put_domain std.None b d r = refl
+put_domain (std.Some n) b d r = refl
+
+pub put_owner : (o : std.Option ℕ) (b : Block) (d : ℕ) (r : Domain) → (put_change o b d r).owner ≡ r
+put_owner std.None b d r = refl
+put_owner (std.Some n) b d r = refl
+
 -- The block's new record, and its owner's own.
 placed_change : (t : Table) (x : Summary) (d p count entries : ℕ) (b : Block) → Places t d p x → MayPlace x entries d count
-    → (o : Found) → x.found ≡ o → changed_table (opening_change (number_found o) b d x.domain) t ≡ into_table o b t
-placed_change t x d p count entries b s m found.Nothing f =
-    changed_owner t b d x.domain (λ z. omega (arith, z, (is_between 1 16 d m.id).least))
+    → (o : std.Option ℕ) → x.found ≡ o → changed_table (put_change o b d x.domain) t ≡ into_table o b t
+placed_change t x d p count entries b s m std.None f =
+    changed_domain_lem t d x.domain (λ z. omega (arith, z, (is_between 1 16 d m.id).least))
     ∙ ap (λ r. with_domain d r t) (sym s.same_owner) ∙ own_domain_lem t d
-placed_change t x d p count entries b s m (found.Block n) f =
+placed_change t x d p count entries b s m (std.Some n) f =
     changed_opening t n b d x.domain (ap within_limits s.same_config ∙ m.within) (rw s.same_config (m.open_inside n f))
     (λ z. omega (arith, z, (is_between 1 16 d m.id).least))
     ∙ ap (λ r. with_domain d r (with_block n b t)) (sym s.same_owner) ∙ own_domain_lem (with_block n b t) d
 
 -- ---- The whole write
 
-room_same : (t : Table) (x : Summary) (o : Option ℕ) → t.config ≡ x.config → x.sound ≡ true → SeesFound t o x → (f : Found) → x.found ≡ f → room_in t o ≡ room_seen x
-room_same t x o same whole s found.Nothing f =
-    ap (room_in t) (sym (s.same_found whole) ∙ ap found_in f) ∙ sym (ap (λ (k : Found). room_of k x.config x.block) f)
-room_same t x o same whole s (found.Block n) f =
+room_same : (t : Table) (x : Summary) (o : Option ℕ) → t.config ≡ x.config → x.sound ≡ true → SeesFound t o x → (f : std.Option ℕ) → x.found ≡ f → room_in t o ≡ room_seen x
+room_same t x o same whole s std.None f =
+    ap (room_in t) (sym (s.same_found whole) ∙ ap found_in f) ∙ sym (ap (λ (k : std.Option ℕ). room_of k x.config x.block) f)
+room_same t x o same whole s (std.Some n) f =
     let is : o ≡ some n = sym (s.same_found whole) ∙ ap found_in f in
     ap (room_in t) is
     ∙ ap (λ (c : Config). (adus_per_block c).0 - (block_at t n).written.0) same
     ∙ ap (λ (b : Block). (adus_per_block x.config).0 - b.written.0) (sym (s.found_block whole n is))
-    ∙ sym (ap (λ (k : Found). room_of k x.config x.block) f)
+    ∙ sym (ap (λ (k : std.Option ℕ). room_of k x.config x.block) f)
 
 first_long : (d : ℕ) (o : Option ℕ) (start put : ℕ) (v : Drive) → (o ≡ none → put ≡ 0)
     → length (written_first d o (user_addresses start put) v).addresses ≡ put
@@ -113,11 +122,11 @@ Leads t d p start count rest change store middle words filled =
 pub placed_wrote : (t : Table) (x : Summary) (d p start count put entries : ℕ) (b : Block) (store middle words filled : List ℕ)
     → Places t d p x → MayPlace x entries d count → user_addresses_fit start count ≡ true → put ≡ min count (room_seen x)
     → Wrote (written_first d (open_block t d p) (user_addresses start put) (drive t store)) words (drive (into_table x.found b t) middle) filled
-    → Leads t d p start count (rest_after (whole_write p start (adus count)) (room_seen x)) (opening_change (number_found x.found) b d x.domain) store middle words filled
+    → Leads t d p start count (rest_after (whole_write p start (adus count)) (room_seen x)) (put_change x.found b d x.domain) store middle words filled
 placed_wrote t x d p start count put entries b store middle words filled s m fit puts first u last went-after =
     let v = drive t store in
     let o = open_block t d p in
-    let left = drive (changed_table (opening_change (number_found x.found) b d x.domain) t) middle in
+    let left = drive (changed_table (put_change x.found b d x.domain) t) middle in
     let rest = rest_from (whole_write p start (adus count)) put in
     let room : room_in t o ≡ room_seen x = room_same t x o s.same_config m.whole s.seen x.found refl in
     let put_is : put ≡ min count (room_in t o) = puts ∙ ap (min count) (sym room) in

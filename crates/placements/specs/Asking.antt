@@ -1,5 +1,5 @@
 -- What Write by placement is asked, of what is seen of the table.
-use Rattle.std.specs.Prelude.{ℕ, ◌-◌, Bool, true, ◌&&◌, List, [], ◌∷◌, leb, ltb}
+use Rattle.std.specs.Prelude.{ℕ, ◌-◌, Bool, true, ◌&&◌, List, [], ◌∷◌, leb, ltb, Option, None, Some}
 use Rattle.geometry.specs.Questions.{Question, ask}
 use Rattle.geometry.specs.declared.shape.Adus.{Adus}
 use Rattle.model.specs.declared.table.Domain.{Domain}
@@ -7,8 +7,6 @@ use Rattle.model.specs.declared.table.Table.{Table}
 use Rattle.placements.specs.Onwards.{blocks_in}
 use Rattle.placements.specs.Placing.{room_seen}
 use Rattle.rules.specs.Questions.{is_count, user_addresses_fit}
-use Rattle.scan.specs.declared.summary.Found.{Found}
-use Rattle.scan.specs.declared.summary.Found.TheVariants as found
 use Rattle.scan.specs.declared.summary.Summary.{Summary}
 use Rattle.tables.specs.Verdicts.{new_blocks_questions}
 
@@ -20,9 +18,9 @@ placement_arguments x words p count =
     ∷ []
 
 -- A block opens where the placement has none open.
-abbrev pub may_open_of : Found → ℕ → Domain → Bool
-may_open_of found.Nothing opened d = ltb opened d.limit
-may_open_of (found.Block n) opened d = true
+abbrev pub may_open_of : Option ℕ → ℕ → Domain → Bool
+may_open_of None opened d = ltb opened d.limit
+may_open_of (Some n) opened d = true
 
 abbrev pub may_open_seen : Summary → Bool
 may_open_seen x = may_open_of x.found x.opened x.domain

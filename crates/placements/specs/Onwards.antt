@@ -1,11 +1,12 @@
 -- What is left of a write by placement, and how it goes on from block to block.
-use Rattle.std.specs.Prelude.{ℕ, ◌+◌, ◌-◌, ◌/◌, ◌≤◌, true, cond, List, [], ◌≡◌, eqb, leb, ltb, length}
+use Rattle.std.specs.Prelude.{Result, Ok, Err, ℕ, ◌+◌, ◌-◌, ◌/◌, ◌≤◌, true, cond, List, [], ◌≡◌, eqb, leb, ltb, length}
 use Rattle.geometry.specs.Address.{is_domain_id}
 use Rattle.geometry.specs.Shape.{adus, adus_per_block, store_length, within_limits}
 use Rattle.geometry.specs.declared.shape.Adus.{Adus}
 use Rattle.geometry.specs.declared.shape.Config.{Config}
 use Rattle.model.specs.declared.answer.Answer.{Answer}
 use Rattle.model.specs.declared.answer.Answer.TheVariants.{Block as AnswerBlock, Done, Refused}
+use Rattle.model.specs.declared.answer.Refusal.{Refusal}
 use Rattle.model.specs.declared.block.Block.{Block}
 use Rattle.model.specs.declared.command.Command.{Command}
 use Rattle.model.specs.declared.table.Domain.{Domain}
@@ -15,7 +16,7 @@ use Rattle.placements.specs.declared.rest.Rest.{Rest}
 use Rattle.rules.specs.Blocks.{Written, user_address, user_addresses, written_onwards}
 use Rattle.rules.specs.Drive.{Drive, overwritten}
 use Rattle.rules.specs.Questions.{user_addresses_fit}
-use Rattle.tables.specs.Changing.{changed_table, table_with}
+use Rattle.tables.specs.Changing.{changed_table, leaving, table_with}
 use Rattle.tables.specs.Serving.{ServesCommand, answering, drive, served}
 use Rattle.tables.specs.declared.change.Outcome.{Outcome}
 
@@ -39,6 +40,11 @@ nothing_left = record { placement = 0; start = 0; count = adus 0; done = 0 }
 
 abbrev pub complete_of : Outcome → Partial
 complete_of outcome = record { outcome = outcome; rest = nothing_left }
+
+-- A refusal leaves nothing to write.
+abbrev pub partial_from : Result Partial Refusal → Partial
+partial_from (Ok partial) = partial
+partial_from (Err reason) = complete_of (leaving (Refused reason))
 
 -- All of a write, before its first ADU.
 abbrev pub whole_write : ℕ → ℕ → Adus → Rest

@@ -9,9 +9,8 @@ ghost use Rattle.rules.specs.Drive.{block_at, domain_at, is_free, with_block, wi
 ghost use Rattle.tables.specs.Serving.{drive};
 
 use crate::rest::{Rest, rest_after};
-use crate::room::smaller;
 use blocks::opened_for;
-use geometry::{Config, adus_per_block, stretch_start};
+use geometry::{Adus, Config, adus_per_block, stretch_start};
 use model::{Block, Domain, Way};
 use transfers::written_into;
 
@@ -49,7 +48,7 @@ pub fn fill_next(
     let opened = opened_for(config, owner, domain, way, block, stretch);
     let fresh = opened.block;
     let new = opened.owner;
-    let put = smaller(count, capacity);
+    let put = Adus(count.0.min(capacity.0));
     let written = written_into(
         config,
         domain,

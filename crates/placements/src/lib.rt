@@ -9,5 +9,5 @@ mod room;
 mod writing;
 
 pub use filling::{Filled, fill_next};
-pub use rest::{Partial, Rest, complete, nothing_left};
+pub use rest::{Partial, Rest, complete, nothing_left, partial_from};
 pub use writing::write_by_placement;

@@ -4,7 +4,7 @@ ghost use Rattle.std.proofs.Math.Option.{Option};
 ghost use Rattle.model.specs.declared.answer.Answer.TheVariants.{Done};
 ghost use Rattle.model.specs.declared.table.Table.{Table};
 ghost use Rattle.placements.specs.Onwards.{MayGoOn, WentOn, rest_after, whole_write};
-ghost use Rattle.placements.specs.Placing.{MayFill, MayPlace, Places, into_table, number_found, room_seen};
+ghost use Rattle.placements.specs.Placing.{MayFill, MayPlace, Places, into_table, put_change, room_seen};
 ghost use Rattle.rules.specs.Blocks.{user_addresses, written_by_placement, written_first};
 ghost use Rattle.rules.specs.Drive.{Drive};
 ghost use Rattle.rules.specs.Questions.{user_addresses_fit};
@@ -14,11 +14,11 @@ ghost use Rattle.tables.specs.Serving.{drive};
 ghost use Rattle.transfers.specs.Transfers.{Wrote};
 
 use crate::rest::{Partial, Rest, rest_after};
-use crate::room::{room_in, smaller};
+use crate::room::room_in;
 use geometry::{Adus, adus_per_block, stretch_start};
-use model::{Answer, Block};
-use scan::{Found, Summary};
-use tables::{NO_BLOCK, Outcome, clear_block, opening_change};
+use model::{Answer, Block, Domain};
+use scan::Summary;
+use tables::{Change, Outcome, clear_block, domain_change, opening_change};
 use transfers::written_into;
 
 // Into the placement's open block, if it has one: its record afterwards.
@@ -35,10 +35,9 @@ fn into_open(
     requires put_in_bounds { put.0 ≤ length words.old }
     ensures { (t : Table) (found : Option ℕ) → t.config ≡ summary.config → SeesFound t found summary → Wrote (written_first domain found (user_addresses start put.0) (drive t store.old)) words.old (drive (into_table summary.found result t) store.new) words.new }
 {
-    let found = summary.found;
-    match found {
-        Found::Nothing => clear_block(),
-        Found::Block(n) => {
+    match summary.found {
+        None => clear_block(),
+        Some(n) => {
             let config = summary.config;
             let block = summary.block;
             let first = stretch_start(config, n).0 as usize;
@@ -49,12 +48,13 @@ fn into_open(
     }
 }
 
-fn number_of(found: Found) -> u64
-    ensures { result ≡ number_found found }
+// The owner's record, with the new one of the open block if there is one.
+fn put_change(found: Option<u64>, block: Block, domain: u64, owner: Domain) -> Change
+    ensures { result ≡ put_change found block domain owner }
 {
     match found {
-        Found::Nothing => NO_BLOCK,
-        Found::Block(n) => n,
+        None => domain_change(domain, owner),
+        Some(n) => opening_change(n, block, domain, owner),
     }
 }
 
@@ -74,10 +74,8 @@ pub(crate) fn placed(
     requires count_in_bounds { count.0 ≤ length words.old }
     ensures { (result.outcome.answer ≡ Done) × (result.outcome.change.domain ≡ domain) × (result.rest ≡ rest_after (whole_write placement start count) (room_seen summary)) × MayGoOn summary.config (length store.new) (length words.new) domain result.outcome.change.owner result.rest × ((t : Table) → Places t domain placement summary → (u : Drive) (last : List ℕ) → WentOn domain result.rest (drive (changed_table result.outcome.change t) store.new) words.new u last → Wrote (written_by_placement domain placement (user_addresses start count.0) (drive t store.old)) words.old u last) }
 {
-    let owner = summary.domain;
-    let found = summary.found;
     let room = room_in(summary);
-    let put = smaller(count, room);
+    let put = Adus(count.0.min(room.0));
     let block = into_open(summary, domain, start, put, store, words);
     let whole = Rest {
         placement,
@@ -88,7 +86,7 @@ pub(crate) fn placed(
     Partial {
         outcome: Outcome {
             answer: Answer::Done,
-            change: opening_change(number_of(found), block, domain, owner),
+            change: put_change(summary.found, block, domain, summary.domain),
         },
         rest: rest_after(whole, room),
     }

@@ -1,12 +1,13 @@
 // What is left to write of a write by placement, once its questions are answered and the placement's open block has
 // what it takes.
 ghost use Rattle.std.specs.Prelude.{true, ◌≡◌, ◌+◌, ◌^◌, ◌<◌};
-ghost use Rattle.placements.specs.Onwards.{complete_of, nothing_left, rest_after};
+ghost use Rattle.placements.specs.Onwards.{complete_of, nothing_left, partial_from, rest_after};
 ghost use Rattle.rules.specs.Questions.{user_addresses_fit};
 
 use buffers::user_address;
 use geometry::Adus;
-use tables::Outcome;
+use model::Refusal;
+use tables::{Outcome, refusal};
 
 // So many ADUs, whose user addresses go on from a start, for blocks that are opened for the placement. Their flash
 // addresses go behind so many words.
@@ -61,5 +62,15 @@ pub fn complete(outcome: Outcome) -> Partial
     Partial {
         outcome,
         rest: nothing_left(),
+    }
+}
+
+// What Write by placement hands back, with what it has left to write: after a refusal nothing.
+pub fn partial_from(given: Result<Partial, Refusal>) -> Partial
+    ensures { result ≡ partial_from given }
+{
+    match given {
+        Ok(partial) => partial,
+        Err(reason) => complete(refusal(reason)),
     }
 }

@@ -1,26 +1,17 @@
 // What the placement's open block still takes, and how many blocks more a write opens.
-ghost use Rattle.std.specs.Prelude.{true, ◌≡◌, ◌-◌, ◌≤◌, min};
+ghost use Rattle.std.specs.Prelude.{true, ◌≡◌, ◌-◌, ◌≤◌};
 ghost use Rattle.geometry.specs.Shape.{within_limits};
 ghost use Rattle.placements.specs.Onwards.{blocks_in};
 ghost use Rattle.placements.specs.Placing.{room_seen};
 
 use geometry::{Adus, Config, adus_per_block};
-use scan::{Found, Summary};
+use scan::Summary;
 
 // What is left of a number of ADUs without so many.
 pub(crate) fn without(count: Adus, some: Adus) -> Adus
     ensures { result.0 ≡ count.0 - some.0 }
 {
-    if count.0 < some.0 {
-        return Adus(0);
-    }
-    Adus(count.0 - some.0)
-}
-
-pub(crate) fn smaller(a: Adus, b: Adus) -> Adus
-    ensures { result.0 ≡ min a.0 b.0 }
-{
-    if a.0 < b.0 { a } else { b }
+    Adus(count.0.saturating_sub(some.0))
 }
 
 // The ADUs that the placement's open block still takes; none where it has none.
@@ -28,13 +19,9 @@ pub(crate) fn room_in(summary: Summary) -> Adus
     requires { within_limits summary.config ≡ true }
     ensures { result.0 ≡ room_seen summary }
 {
-    let found = summary.found;
-    let config = summary.config;
-    let block = summary.block;
-    let written = block.written;
-    match found {
-        Found::Nothing => Adus(0),
-        Found::Block(_) => without(adus_per_block(config), written),
+    match summary.found {
+        None => Adus(0),
+        Some(_) => without(adus_per_block(summary.config), summary.block.written),
     }
 }
 

@@ -5,7 +5,7 @@ ghost use Rattle.geometry.specs.Questions.{first_no};
 ghost use Rattle.model.specs.declared.command.Command.TheVariants.{WriteByPlacement};
 ghost use Rattle.model.specs.declared.table.Table.{Table};
 ghost use Rattle.placements.specs.Asking.{may_open_seen, placement_arguments, placement_state};
-ghost use Rattle.placements.specs.Onwards.{Finishes, MayFinish, rest_after, rest_if_done, whole_write};
+ghost use Rattle.placements.specs.Onwards.{Finishes, MayFinish, partial_from, rest_after, rest_if_done, whole_write};
 ghost use Rattle.placements.specs.Placing.{room_seen};
 ghost use Rattle.rules.specs.Questions.{is_count};
 ghost use Rattle.scan.specs.First.{FirstPassed};
@@ -13,38 +13,44 @@ ghost use Rattle.scan.specs.Summary.{Seen, Sees, SeesPlacement};
 ghost use Rattle.tables.specs.Verdicts.{verdict_number};
 
 use crate::placing::placed;
-use crate::rest::{Partial, complete};
+use crate::rest::Partial;
 use crate::room::{blocks_for, room_in, without};
 use blocks::new_blocks_verdict;
 use buffers::user_addresses_fit;
 use geometry::Adus;
 use model::Refusal;
-use scan::{Found, Summary};
-use tables::{Verdict, ask, is_count, may_open, refusal};
+use scan::Summary;
+use tables::{ask, is_count, may_open};
 
 // 6 and 7.
-fn placement_arguments(summary: Summary, placement: u64, count: Adus, words: usize) -> Verdict
+#[tactic(auto, using(tables::proofs::Refusals::refusal_positive), unfolding(geometry::specs::Questions::first_no, crate::specs::Asking::placement_arguments))]
+fn placement_arguments(
+    summary: Summary,
+    placement: u64,
+    count: Adus,
+    words: usize,
+) -> Result<(), Refusal>
     ensures { verdict_number result ≡ first_no (placement_arguments summary words placement count) }
 {
     let d = summary.domain;
     let range = (placement < d.placements as u64) & is_count(count);
-    ask(range, Refusal::Range).and(count.0 <= words as u64, Refusal::Output)
+    ask(range, Refusal::Range)?;
+    ask(count.0 <= words as u64, Refusal::Output)
 }
 
 // 11. A block opens where the placement has none open: are fewer open than the limit?
 fn may_open_for(summary: Summary) -> bool
     ensures { result ≡ may_open_seen summary }
 {
-    let found = summary.found;
-    let d = summary.domain;
-    match found {
-        Found::Nothing => may_open(d, summary.opened),
-        Found::Block(_) => true,
+    match summary.found {
+        None => may_open(summary.domain, summary.opened),
+        Some(_) => true,
     }
 }
 
 // 8 and 11 to 14, these of all blocks that the write will open.
-fn placement_state(summary: Summary, domain: u64, start: u64, count: Adus) -> Verdict
+#[tactic(auto, using(tables::proofs::Refusals::refusal_positive), unfolding(geometry::specs::Questions::first_no, crate::specs::Asking::placement_state))]
+fn placement_state(summary: Summary, domain: u64, start: u64, count: Adus) -> Result<(), Refusal>
     requires seen { Seen domain summary × (summary.sound ≡ true) }
     requires domain_value { is_domain_id domain ≡ true }
     requires count_value { is_count count ≡ true }
@@ -53,11 +59,12 @@ fn placement_state(summary: Summary, domain: u64, start: u64, count: Adus) -> Ve
     let config = summary.config;
     let new = blocks_for(config, without(count, room_in(summary)));
     let opens = may_open_for(summary);
-    ask(user_addresses_fit(start, count), Refusal::UserAddress)
-        .and(opens, Refusal::OpenLimit)
-        .then(new_blocks_verdict(summary, domain, new as u32, new))
+    ask(user_addresses_fit(start, count), Refusal::UserAddress)?;
+    ask(opens, Refusal::OpenLimit)?;
+    new_blocks_verdict(summary, domain, new as u32, new)
 }
 
+#[tactic(auto, using(tables::proofs::Refusals::refusal_positive), unfolding(geometry::specs::Questions::first_no, crate::specs::Asking::placement_arguments, crate::specs::Asking::placement_state))]
 fn placement_verdict(
     summary: Summary,
     domain: u64,
@@ -65,15 +72,13 @@ fn placement_verdict(
     start: u64,
     count: Adus,
     words: usize,
-) -> Verdict
+) -> Result<(), Refusal>
     requires seen { Seen domain summary × (summary.sound ≡ true) }
     requires domain_value { is_domain_id domain ≡ true }
     ensures { (t : Table) → Sees t domain summary → verdict_number result ≡ first_no (placement_arguments summary words placement count ++ placement_state t summary domain start count) }
 {
-    match placement_arguments(summary, placement, count, words) {
-        Verdict::No(reason) => Verdict::No(reason),
-        Verdict::Pass => placement_state(summary, domain, start, count),
-    }
+    placement_arguments(summary, placement, count, words)?;
+    placement_state(summary, domain, start, count)
 }
 
 // User addresses into the placement's open block; what is left of them goes into others that are opened for it. The
@@ -86,16 +91,12 @@ pub fn write_by_placement(
     count: Adus,
     store: &mut [u64],
     words: &mut [u64],
-) -> Partial
+) -> Result<Partial, Refusal>
     requires sees { (t : Table) × Sees t domain summary × SeesPlacement t domain placement summary }
     requires first_passed { FirstPassed (WriteByPlacement domain placement start count) (length store.old) summary }
-    ensures { (result.rest ≡ rest_if_done result.outcome.answer (rest_after (whole_write placement start count) (room_seen summary))) × MayFinish summary.config (length store.new) (length words.new) result × ((t : Table) (bytes : List ℕ) → Sees t domain summary → SeesPlacement t domain placement summary → Finishes t (WriteByPlacement domain placement start count) store.old words.old bytes result store.new words.new bytes) }
+    ensures { ((partial_from result).rest ≡ rest_if_done (partial_from result).outcome.answer (rest_after (whole_write placement start count) (room_seen summary))) × MayFinish summary.config (length store.new) (length words.new) (partial_from result) × ((t : Table) (bytes : List ℕ) → Sees t domain summary → SeesPlacement t domain placement summary → Finishes t (WriteByPlacement domain placement start count) store.old words.old bytes (partial_from result) store.new words.new bytes) }
 {
-    match placement_verdict(summary, domain, placement, start, count, words.len()) {
-        Verdict::No(reason) => complete(refusal(reason)),
-        Verdict::Pass => {
-            let p = placement as u8;
-            placed(summary, domain, p, start, count, store, words)
-        }
-    }
+    placement_verdict(summary, domain, placement, start, count, words.len())?;
+    let p = placement as u8;
+    Ok(placed(summary, domain, p, start, count, store, words))
 }

@@ -226,10 +226,3 @@ module _ (keys written : List ℕ) (c count : ℕ) (store words₀ : List ℕ) w
       where
         so_far : (count left full r : ℕ) → left ≤ count → full ≤ left → r ≡ left - full → full + (count - left) ≡ count - r
         so_far count left full r few whole e = omega (arith, few, whole, e)
-
-    -- Nothing is left: the last so many are there.
-    pub all_filled : left ≤ 0 → words ≡ overwritten 0 (last_of count all) words₀
-    all_filled done =
-        let none : left ≡ 0 = omega (arith, done) in
-        let so_many : count - left ≡ count = omega (arith, none) in
-        f.words_are ∙ ap₂ (λ (at m : ℕ). overwritten at (last_of m all) words₀) none so_many

@@ -1,17 +1,17 @@
 -- What is gathered of the blocks, one after the other.
 use Prim.Native.Nat.{ℕ, zero, suc, ◌+◌, ◌*◌, ◌≤◌, ◌<◌}
-use mathlib.Core.Bool.{Bool, true, false, true≢false, cond}
+use mathlib.Core.Bool.{Bool, true, false, cond}
 use mathlib.Core.List.{List, [], ◌∷◌, ◌++◌, append-nil}
 use mathlib.Core.Path.{◌≡◌, refl, sym, ap, ap₂, ◌∙◌, subst}
 use native.Mathlib.Numerals.{add-one}
 use native.Mathlib.Omega.{arith}
 use lib.ListN.{drop, get_or, length, length-append, length-set, set, take}
-use lib.Seq.{append_snoc, drop-cons, get_or-set_other, get_or-set_same, get_or-take, length-take-le, set_at}
+use lib.Seq.{append_snoc, drop-cons, get_or-take, length-take-le, set_at}
 use Rattle.geometry.proofs.Laws.Shape.{by_test}
 use Rattle.model.specs.declared.block.Block.{Block}
 use Rattle.recorder.specs.Newest.{FewWritten, Gathers, Notes, held_keys, key_of, record_at, written_to}
 use Rattle.recorder.specs.declared.newest.Gathered.{Gathered}
-use Rattle.rules.proofs.Counting.{by_eq, sum_same}
+use Rattle.rules.proofs.Counting.{sum_same}
 use Rattle.rules.specs.Counting.{sum_to}
 use Rattle.rules.specs.Drive.{clear_block, held_by, overwritten}
 use Rattle.tables.specs.Keys.{keys_to}
@@ -46,27 +46,27 @@ key_more keys row key l =
     ∙ sym (append_snoc keys key (drop (suc k) row))
     ∙ ap (λ (i : ℕ). (keys ++ (key ∷ [])) ++ drop i row) (sym one_more)
 
-module _ (bs : List Block) (d : ℕ) (keys₀ written₀ : List ℕ) where
-  pub nothing_gathered : Gathers bs d 0 keys₀ written₀ (record { keys = 0; adus = 0 }) keys₀ written₀
+module _ (bs : List Block) (d : ℕ) (keys₀ : List ℕ) where
+  pub nothing_gathered : Gathers bs d 0 keys₀ (record { keys = 0; adus = 0 }) keys₀
   unfolding keys_to sum_to overwritten
-  nothing_gathered = record { as_many = refl; adus = refl; keys_are = refl; as_long = refl; same_length = refl; written_are = λ i l. absurd (omega (arith, l)) }
+  nothing_gathered = record { as_many = refl; adus = refl; keys_are = refl; as_long = refl }
 
   -- What is gathered fits.
-  pub gathered_few : {n : ℕ} {found : Gathered} {keys written : List ℕ} → FewWritten bs → n < length bs → length bs ≤ 256
-      → Gathers bs d n keys₀ written₀ found keys written → (found.keys ≤ n) × (found.adus ≤ 268435456)
+  pub gathered_few : {n : ℕ} {found : Gathered} {keys : List ℕ} → FewWritten bs → n < length bs → length bs ≤ 256
+      → Gathers bs d n keys₀ found keys → (found.keys ≤ n) × (found.adus ≤ 268435456)
   gathered_few {n} {found} few l most g =
       (omega (arith, g.as_many, few_keys bs d n), omega (arith, g.adus, few_adus bs d n few (omega (arith, l)), l, most))
 
-  module _ {n : ℕ} {found r : Gathered} {keys written keys' written' : List ℕ} (room : n < length keys₀) (room' : n < length written₀)
-      (g : Gathers bs d n keys₀ written₀ found keys written) (s : Notes found n (record_at bs n) d keys written r keys' written') where
+  module _ {n : ℕ} {found r : Gathered} {keys keys' : List ℕ} (room : n < length keys₀)
+      (g : Gathers bs d n keys₀ found keys) (s : Notes found n (record_at bs n) d keys r keys') where
     abbrev held : Bool
     held = held_by d (record_at bs n)
 
-    pub one_gathered : Gathers bs d (suc n) keys₀ written₀ r keys' written'
+    pub one_gathered : Gathers bs d (suc n) keys₀ r keys'
     unfolding keys_to sum_to
     one_gathered = by_test held yes no
       where
-        yes : held ≡ true → Gathers bs d (suc n) keys₀ written₀ r keys' written'
+        yes : held ≡ true → Gathers bs d (suc n) keys₀ r keys'
         yes h =
             let standing = held_keys bs d n in
             let k = key_of (record_at bs n).serial n in
@@ -74,7 +74,6 @@ module _ (bs : List Block) (d : ℕ) (keys₀ written₀ : List ℕ) where
             let more : held_keys bs d (suc n) ≡ standing ++ (k ∷ []) = rw h in
             let one_more : r.keys ≡ found.keys + 1 = rw h at s.as_many in
             let put : keys' ≡ set keys found.keys k = rw h at s.keys_are in
-            let put_written : written' ≡ set written n w = rw h at s.written_are in
             record {
               as_many = one_more ∙ ap (λ (m : ℕ). m + 1) g.as_many ∙ sym (ap length more ∙ length-append standing (k ∷ []));
               adus = s.adus ∙ ap (λ (m : ℕ). m + cond held w 0) g.adus;
@@ -82,31 +81,18 @@ module _ (bs : List Block) (d : ℕ) (keys₀ written₀ : List ℕ) where
                   put ∙ ap₂ (λ (row : List ℕ) (i : ℕ). set row i k) g.keys_are g.as_many
                   ∙ key_more standing keys₀ k (omega (arith, few_keys bs d n, room)) ∙ ap (λ (l : List ℕ). overwritten 0 l keys₀) (sym more);
               as_long = ap length put ∙ length-set keys found.keys k ∙ g.as_long;
-              same_length = ap length put_written ∙ length-set written n w ∙ g.same_length;
-              written_are = λ i l i-held.
-                  ap (λ (row : List ℕ). get_or row i 0) put_written ∙ by_eq i n
-                  (λ e. ap (λ (j : ℕ). get_or (set written n w) j 0) e
-                  ∙ get_or-set_same written n w 0 (omega (arith, g.same_length, room'))
-                  ∙ ap (λ (j : ℕ). (record_at bs j).written.0) (sym e))
-                  (λ other. get_or-set_other written n i w 0 other ∙ g.written_are i (omega (arith, l, other)) i-held);
             }
 
-        no : held ≡ false → Gathers bs d (suc n) keys₀ written₀ r keys' written'
+        no : held ≡ false → Gathers bs d (suc n) keys₀ r keys'
         no h =
             let same : held_keys bs d (suc n) ≡ held_keys bs d n = rw h (append-nil (held_keys bs d n)) in
             let as_before : r.keys ≡ found.keys + 0 = rw h at s.as_many in
             let unput : keys' ≡ keys = rw h at s.keys_are in
-            let unwritten : written' ≡ written = rw h at s.written_are in
             record {
               as_many = omega (arith, as_before, g.as_many, ap length same);
               adus = s.adus ∙ ap (λ (m : ℕ). m + cond held (record_at bs n).written.0 0) g.adus;
               keys_are = unput ∙ g.keys_are ∙ ap (λ (l : List ℕ). overwritten 0 l keys₀) (sym same);
               as_long = ap length unput ∙ g.as_long;
-              same_length = ap length unwritten ∙ g.same_length;
-              written_are = λ i l i-held.
-                  ap (λ (row : List ℕ). get_or row i 0) unwritten ∙ by_eq i n
-                  (λ e. absurd (true≢false (sym i-held ∙ subst (λ (j : ℕ). held_by d (record_at bs j) ≡ false) (sym e) h)))
-                  (λ other. g.written_are i (omega (arith, l, other)) i-held);
             }
 
 -- ---- What is gathered of the first records is gathered of all
@@ -118,20 +104,17 @@ keys_lent bs d m (suc n) l =
     ap₂ (λ (keys : List ℕ) (b : Block). keys ++ cond (held_by d b) (key_of b.serial n ∷ []) []) (keys_lent bs d m n (omega (arith, l)))
     (get_or-take m bs n clear_block (omega (arith, l)))
 
-pub gathered_lent : (bs : List Block) (d m : ℕ) (keys written : List ℕ) (r : Gathered) (keys' written' : List ℕ) → m ≤ length bs
-    → Gathers (take m bs) d (length (take m bs)) keys written r keys' written' → Gathers bs d m keys written r keys' written'
-gathered_lent bs d m keys written r keys' written' l g =
+pub gathered_lent : (bs : List Block) (d m : ℕ) (keys : List ℕ) (r : Gathered) (keys' : List ℕ) → m ≤ length bs
+    → Gathers (take m bs) d (length (take m bs)) keys r keys' → Gathers bs d m keys r keys'
+gathered_lent bs d m keys r keys' l g =
     let long : length (take m bs) ≡ m = length-take-le m bs l in
-    let h : Gathers (take m bs) d m keys written r keys' written' = subst (λ (n : ℕ). Gathers (take m bs) d n keys written r keys' written') long g in
+    let h : Gathers (take m bs) d m keys r keys' = subst (λ (n : ℕ). Gathers (take m bs) d n keys r keys') long g in
     let same = keys_lent bs d m m (omega arith) in
     record {
       as_many = h.as_many ∙ ap length same;
       adus = h.adus ∙ sum_same m (written_in (take m bs)) (written_in bs) (λ i below. ap (λ (b : Block). cond (held_by d b) b.written.0 0) (get_or-take m bs i clear_block below));
       keys_are = h.keys_are ∙ ap (λ (row : List ℕ). overwritten 0 row keys) same;
       as_long = h.as_long;
-      same_length = h.same_length;
-      written_are = λ i below held. let one = get_or-take m bs i clear_block below in
-          h.written_are i below (ap (held_by d) one ∙ held) ∙ ap (λ (b : Block). b.written.0) one;
     }
   where
     written_in : List Block → ℕ → ℕ

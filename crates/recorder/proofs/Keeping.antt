@@ -7,7 +7,7 @@ use mathlib.Core.Path.{◌≡◌, refl, sym, ap, ap₂, ◌∙◌, subst}
 use native.Mathlib.Nat.{mul-le-mul_right}
 use native.Mathlib.Omega.{arith}
 use lib.Dec.{leb, ltb}
-use lib.ListN.{get_or-append, drop, get_or, length, length-append, length-take, take}
+use lib.ListN.{get_or-append, get_or-map, drop, get_or, length, length-append, length-take, take}
 use lib.Seq.{get_or-take, take-append_seam}
 use borrow.Author.Tests.{le-leb, lt-leb, ltb-false, ltb-true}
 use Rattle.geometry.proofs.Laws.Shape.{by_test, is_between, limits}
@@ -18,8 +18,9 @@ use Rattle.geometry.specs.declared.shape.Config.{Config}
 use Rattle.model.specs.declared.answer.Answer.{Answer}
 use Rattle.model.specs.declared.answer.Answer.TheVariants.{Done, Refused}
 use Rattle.model.specs.declared.answer.Refusal.TheVariants as refusal
+use Rattle.model.specs.declared.block.Block.{Block}
 use Rattle.model.specs.declared.table.Table.{Table}
-use Rattle.recorder.specs.Newest.{FewWritten, Fillable, FillsFrom, Gathers, Within, gathered_parts, held_keys, key_of, part_of, parts_of, written_to}
+use Rattle.recorder.specs.Newest.{FewWritten, Fillable, FillsFrom, Gathers, Within, gathered_parts, held_keys, key_of, part_of, parts_of, record_at, written_of, written_to}
 use Rattle.recorder.specs.Steps.{FillsLatest, Given, Gives, Readable, asked, no_room, out_of_range}
 use Rattle.recorder.specs.declared.newest.Gathered.{Gathered}
 use Rattle.recorder.proofs.Filling.{parts_append}
@@ -44,6 +45,10 @@ use Rattle.tables.specs.Serving.{drive}
 -- The number of a key's block.
 key_number : (serial n : ℕ) → n < 256 → key_of serial n % 256 ≡ n
 key_number serial n l = omega (arith, l)
+
+-- How many of its ADUs are written.
+written_at : (bs : List Block) (n : ℕ) → get_or (written_of bs) n 0 ≡ (record_at bs n).written.0
+written_at bs n = get_or-map (λ (b : Block). b.written.0) bs n clear_block
 
 -- The first of the second of two lists.
 get_d_seam : (xs : List ℕ) (y : ℕ) (ys : List ℕ) → get_or (xs ++ (y ∷ ys)) (length xs) 0 ≡ y
@@ -85,7 +90,10 @@ module _ (t : Table) (d : ℕ) (store : List ℕ) (x : Readable t d store) (shap
   unfolding view
   kept_many = kept_length v d low facts ready
 
-  module _ (keys₀ written₀ : List ℕ) (found : Gathered) (keys written : List ℕ) (g : Gathers t.blocks d (size t) keys₀ written₀ found keys written) where
+  module _ (keys₀ : List ℕ) (found : Gathered) (keys : List ℕ) (g : Gathers t.blocks d (size t) keys₀ found keys) where
+    abbrev written : List ℕ
+    written = written_of t.blocks
+
     abbrev last : ℕ
     last = (domain_at t d).last
 
@@ -121,7 +129,7 @@ module _ (t : Table) (d : ℕ) (store : List ℕ) (x : Readable t d store) (shap
         rw o.1
         (append-nil (part_of c store written (key_of (block_at t n).serial n))
         ∙ ap (λ (k : ℕ). take (get_or written k 0) (drop (k * c) store)) is
-        ∙ ap (λ (k : ℕ). take k (drop (n * c) store)) (g.written_are n o.0 o.1)
+        ∙ ap (λ (k : ℕ). take k (drop (n * c) store)) (written_at t.blocks n)
         ∙ sym (take-take w c (drop (n * c) store) (block_few n o.0)))
 
     parts_to : (s : ℕ) → parts_of c store written (ranks s) ≡ by_serial_to (written_in v) t d s
@@ -169,7 +177,7 @@ module _ (t : Table) (d : ℕ) (store : List ℕ) (x : Readable t d store) (shap
     all_within i l =
         let n = get_or (ranks last) i 0 % 256 in
         let h = keys_within last i l in
-        omega (arith, block_within n h.0, g.written_are n h.0 h.1)
+        omega (arith, block_within n h.0, written_at t.blocks n)
 
 -- ---- The answers
 
@@ -199,13 +207,7 @@ module _ (t : Table) (d : ℕ) (count : Adus) (store words : List ℕ) where
       let same : words' ≡ overwritten 0 [] words = rw fewer at f.fills in
       record { answers = rw (short, e, room, fewer); fills = rw (e, room, fewer) same })
 
--- As many are kept, or fewer.
-pub filled_latest : (samples : List ℕ) (count : Adus) (words words' : List ℕ) → count.0 ≤ length samples
-    → words' ≡ overwritten 0 (last_of count.0 samples) words → FillsLatest samples count words Done words'
-filled_latest samples count words words' l filled =
-    let many : leb count.0 (length samples) ≡ true = le-leb count.0 (length samples) l in
-    record { answers = rw many; fills = rw many filled }
-
+-- Fewer are kept.
 pub too_few : (samples : List ℕ) (count : Adus) (words : List ℕ) → length samples < count.0
     → FillsLatest samples count words (Refused refusal.Extent) words
 too_few samples count words l =
@@ -214,27 +216,27 @@ too_few samples count words l =
 
 -- ---- What the row of keys in order is filled in from
 
-module _ (config : Config) (keys written : List ℕ) (count : Adus) (store words : List ℕ) (cap : ℕ) (f : FillsFrom config keys written count store words)
+module _ (config : Config) (keys : List ℕ) (bs : List Block) (count : Adus) (store words : List ℕ) (cap : ℕ) (f : FillsFrom config keys bs count store words)
     (capacity : cap ≡ counted config (adus_per_block config).0) where
   pub capacity_is : cap ≡ (adus_per_block config).0
   capacity_is = capacity ∙ (rw f.limits)
 
   pub may_fill : (keys' : List ℕ) → keys' ≡ keys
-      → ((cap ≤ 1048576) × (length written ≡ 256) × Within cap store written keys')
-      × ((count.0 ≤ length (parts_of cap store written keys')) × (count.0 ≤ length words))
+      → ((cap ≤ 1048576) × (length bs ≡ 256) × Within cap store (written_of bs) keys')
+      × ((count.0 ≤ length (parts_of cap store (written_of bs) keys')) × (count.0 ≤ length words))
   may_fill keys' same =
       let small : (adus_per_block config).0 ≤ 1048576 = omega (arith, (limits config f.limits).adus) in
-      subst (λ (l : List ℕ). ((cap ≤ 1048576) × (length written ≡ 256) × Within cap store written l)
-      × ((count.0 ≤ length (parts_of cap store written l)) × (count.0 ≤ length words))) (sym same)
-      (subst (λ (k : ℕ). ((k ≤ 1048576) × (length written ≡ 256) × Within k store written keys)
-      × ((count.0 ≤ length (parts_of k store written keys)) × (count.0 ≤ length words))) (sym capacity_is)
+      subst (λ (l : List ℕ). ((cap ≤ 1048576) × (length bs ≡ 256) × Within cap store (written_of bs) l)
+      × ((count.0 ≤ length (parts_of cap store (written_of bs) l)) × (count.0 ≤ length words))) (sym same)
+      (subst (λ (k : ℕ). ((k ≤ 1048576) × (length bs ≡ 256) × Within k store (written_of bs) keys)
+      × ((count.0 ≤ length (parts_of k store (written_of bs) keys)) × (count.0 ≤ length words))) (sym capacity_is)
       ((small, f.rows, f.within), (f.enough, f.room)))
 
 -- So many can be filled in from what was gathered, in order.
-pub fills_from : (config : Config) (found : Gathered) (keys written : List ℕ) (count : Adus) (store words : List ℕ)
-    → Fillable config found keys written store → count.0 ≤ length words → count.0 ≤ found.adus
-    → FillsFrom config (in_order (take found.keys keys)) written count store words
-fills_from config found keys written count store words x room enough =
+pub fills_from : (config : Config) (found : Gathered) (keys : List ℕ) (bs : List Block) (count : Adus) (store words : List ℕ)
+    → Fillable config found keys bs store → count.0 ≤ length words → count.0 ≤ found.adus
+    → FillsFrom config (in_order (take found.keys keys)) bs count store words
+fills_from config found keys bs count store words x room enough =
     record { limits = x.limits; rows = x.rows; within = x.within; enough = omega (arith, enough, x.adus); room = room }
 
 -- ---- What is gathered of a readable table
@@ -250,28 +252,28 @@ may_gather t d store x shape n l =
     let small = (limits t.config (facts t d store x shape).limits).adus in
     rw (get_or-take (size t) t.blocks n clear_block below) (omega (arith, block_few t d store x shape n below, small))
 
-module _ (t : Table) (d : ℕ) (store : List ℕ) (x : Readable t d store) (shape : Shaped t) (keys₀ written₀ : List ℕ) (found : Gathered) (keys written : List ℕ)
-    (g : Gathers t.blocks d (size t) keys₀ written₀ found keys written) where
+module _ (t : Table) (d : ℕ) (store : List ℕ) (x : Readable t d store) (shape : Shaped t) (keys₀ : List ℕ) (found : Gathered) (keys : List ℕ)
+    (g : Gathers t.blocks d (size t) keys₀ found keys) where
   -- It is what the domain keeps.
-  gathered_kept : gathered_parts t.config found keys written store ≡ kept (drive t store) d
+  gathered_kept : gathered_parts t.config found keys t.blocks store ≡ kept (drive t store) d
   gathered_kept =
-      ap (λ (l : List ℕ). parts_of (adus_per_block t.config).0 store written l) (sorted_keys t d store x shape keys₀ written₀ found keys written g)
-      ∙ parts_kept t d store x shape keys₀ written₀ found keys written g
+      ap (λ (l : List ℕ). parts_of (adus_per_block t.config).0 store (written_of t.blocks) l) (sorted_keys t d store x shape keys₀ found keys g)
+      ∙ parts_kept t d store x shape keys₀ found keys g
 
-  pub gathered_fillable : length keys₀ ≡ 256 → length written₀ ≡ 256 → Fillable t.config found keys written store
-  gathered_fillable many rows = record {
+  pub gathered_fillable : length keys₀ ≡ 256 → Fillable t.config found keys t.blocks store
+  gathered_fillable many = record {
     limits = (facts t d store x shape).limits;
     many = g.as_long ∙ many;
     few = omega (arith, g.as_many, few_keys t.blocks d (size t), few t d store x shape);
-    rows = g.same_length ∙ rows;
+    rows = shape.blocks;
     within =
-        subst (λ (l : List ℕ). Within (adus_per_block t.config).0 store written l) (sym (sorted_keys t d store x shape keys₀ written₀ found keys written g))
-        (all_within t d store x shape keys₀ written₀ found keys written g);
-    adus = adus_kept t d store x shape keys₀ written₀ found keys written g ∙ ap length (sym gathered_kept);
+        subst (λ (l : List ℕ). Within (adus_per_block t.config).0 store (written_of t.blocks) l) (sym (sorted_keys t d store x shape keys₀ found keys g))
+        (all_within t d store x shape keys₀ found keys g);
+    adus = adus_kept t d store x shape keys₀ found keys g ∙ ap length (sym gathered_kept);
   }
 
   -- So what is given of it is given as the rules say.
   pub gathered_given : (count : Adus) (words : List ℕ) (r : Answer) (words' : List ℕ)
-      → Gives (domain_at t d) (gathered_parts t.config found keys written store) count words r words' → Given t d count store words r words'
+      → Gives (domain_at t d) (gathered_parts t.config found keys t.blocks store) count words r words' → Given t d count store words r words'
   gathered_given count words r words' gives =
       are_given t d count store words r words' (subst (λ (l : List ℕ). Gives (domain_at t d) l count words r words') gathered_kept gives)

@@ -1,6 +1,6 @@
--- The end of what a domain keeps, found by rows of plain numbers: a key for each of its blocks, and how many ADUs of each block are
--- written.
-use Rattle.std.specs.Prelude.{ℕ, ◌+◌, ◌-◌, ◌*◌, ◌%◌, ◌≤◌, ◌<◌, min, true, cond, List, [], ◌∷◌, ◌++◌, ◌≡◌, drop, get_or, length, set, take}
+-- The end of what a domain keeps, found by a row of plain numbers, a key for each of its blocks, and by how many ADUs of
+-- each block are written.
+use Rattle.std.specs.Prelude.{ℕ, ◌+◌, ◌-◌, ◌*◌, ◌%◌, ◌≤◌, ◌<◌, min, true, cond, List, [], ◌∷◌, ◌++◌, ◌≡◌, drop, get_or, length, map, set, take}
 use Rattle.geometry.specs.Shape.{adus_per_block, within_limits}
 use Rattle.geometry.specs.declared.shape.Adus.{Adus}
 use Rattle.geometry.specs.declared.shape.Config.{Config}
@@ -27,25 +27,26 @@ held_keys bs d n = keys_to (λ i. held_by d (record_at bs i)) (λ i. key_of (rec
 abbrev pub written_to : List Block → ℕ → ℕ → ℕ
 written_to bs d n = sum_to (λ i. cond (held_by d (record_at bs i)) (record_at bs i).written.0 0) n
 
+-- How many ADUs of each of some blocks are written.
+abbrev pub written_of : List Block → List ℕ
+written_of bs = map (λ b. b.written.0) bs
+
 -- What one block more makes of what was gathered.
-pub record Notes (found : Gathered) (n : ℕ) (b : Block) (d : ℕ) (keys written : List ℕ) (r : Gathered) (keys' written' : List ℕ) : Type 0 where
+pub record Notes (found : Gathered) (n : ℕ) (b : Block) (d : ℕ) (keys : List ℕ) (r : Gathered) (keys' : List ℕ) : Type 0 where
   pub as_many : r.keys ≡ found.keys + cond (held_by d b) 1 0
   pub adus : r.adus ≡ found.adus + cond (held_by d b) b.written.0 0
   pub keys_are : keys' ≡ cond (held_by d b) (set keys found.keys (key_of b.serial n)) keys
-  pub written_are : written' ≡ cond (held_by d b) (set written n b.written.0) written
 
 -- No block has more written than any block can take.
 abbrev pub FewWritten : List Block → Type 0
 FewWritten bs = (n : ℕ) → n < length bs → (record_at bs n).written.0 ≤ 1048576
 
 -- What is gathered of the first n blocks.
-pub record Gathers (bs : List Block) (d n : ℕ) (keys written : List ℕ) (r : Gathered) (keys' written' : List ℕ) : Type 0 where
+pub record Gathers (bs : List Block) (d n : ℕ) (keys : List ℕ) (r : Gathered) (keys' : List ℕ) : Type 0 where
   pub as_many : r.keys ≡ length (held_keys bs d n)
   pub adus : r.adus ≡ written_to bs d n
   pub keys_are : keys' ≡ overwritten 0 (held_keys bs d n) keys
   pub as_long : length keys' ≡ length keys
-  pub same_length : length written' ≡ length written
-  pub written_are : (i : ℕ) → i < n → held_by d (record_at bs i) ≡ true → get_or written' i 0 ≡ (record_at bs i).written.0
 
 -- The written ADUs of the block of a key, where each block has c entries of the store; and those of a row of keys.
 abbrev pub part_of : ℕ → List ℕ → List ℕ → ℕ → List ℕ
@@ -61,25 +62,26 @@ Within c store written keys =
     (i : ℕ) → i < length keys → let n = get_or keys i 0 % 256 in n * c + get_or written n 0 ≤ length store
 
 -- The last so many of the ADUs of these blocks can be filled in, under a configuration within limits.
-pub record FillsFrom (config : Config) (keys written : List ℕ) (count : Adus) (store words : List ℕ) : Type 0 where
+pub record FillsFrom (config : Config) (keys : List ℕ) (bs : List Block) (count : Adus) (store words : List ℕ) : Type 0 where
   pub limits : within_limits config ≡ true
-  pub rows : length written ≡ 256
-  pub within : Within (adus_per_block config).0 store written keys
-  pub enough : count.0 ≤ length (parts_of (adus_per_block config).0 store written keys)
+  pub rows : length bs ≡ 256
+  pub within : Within (adus_per_block config).0 store (written_of bs) keys
+  pub enough : count.0 ≤ length (parts_of (adus_per_block config).0 store (written_of bs) keys)
   pub room : count.0 ≤ length words
 
 -- What the blocks that were gathered have written, by rising key.
-abbrev pub gathered_parts : Config → Gathered → List ℕ → List ℕ → List ℕ → List ℕ
-gathered_parts config found keys written store = parts_of (adus_per_block config).0 store written (in_order (take found.keys keys))
+abbrev pub gathered_parts : Config → Gathered → List ℕ → List Block → List ℕ → List ℕ
+gathered_parts config found keys bs store =
+    parts_of (adus_per_block config).0 store (written_of bs) (in_order (take found.keys keys))
 
 -- It lies within the store, and there is as much of it as was counted.
-pub record Fillable (config : Config) (found : Gathered) (keys written store : List ℕ) : Type 0 where
+pub record Fillable (config : Config) (found : Gathered) (keys : List ℕ) (bs : List Block) (store : List ℕ) : Type 0 where
   pub limits : within_limits config ≡ true
   pub many : length keys ≡ 256
   pub few : found.keys ≤ 256
-  pub rows : length written ≡ 256
-  pub within : Within (adus_per_block config).0 store written (in_order (take found.keys keys))
-  pub adus : found.adus ≡ length (gathered_parts config found keys written store)
+  pub rows : length bs ≡ 256
+  pub within : Within (adus_per_block config).0 store (written_of bs) (in_order (take found.keys keys))
+  pub adus : found.adus ≡ length (gathered_parts config found keys bs store)
 
 -- So many of the last written ADUs of a block are put into the end of the words that are left to fill.
 pub record PutsBlock (key : ℕ) (written : List ℕ) (c left : ℕ) (store words : List ℕ) (r : ℕ) (words' : List ℕ) : Type 0 where

@@ -20,7 +20,7 @@ fn older(found: Oldest, n: u64, block: Block, domain: u64) -> Oldest
     ensures found { result ≡ older_of found n block domain }
     ensures narrow { block.serial < 4294967296 }
 {
-    let serial = block.serial as u64;
+    let serial = u64::from(block.serial);
     if is_held(block, domain) & is_closed(block) & (serial < found.serial) {
         Oldest { number: n, serial }
     } else {
@@ -32,7 +32,7 @@ fn older(found: Oldest, n: u64, block: Block, domain: u64) -> Oldest
 pub(crate) fn records_of(blocks: u64) -> usize
     ensures { result ≡ min blocks 256 }
 {
-    if blocks < 256 { blocks as usize } else { 256 }
+    blocks.min(256) as usize
 }
 
 // The oldest Closed block of a domain, in lent records. Their serials have four bytes, as every record's have.
@@ -41,14 +41,11 @@ pub(crate) fn oldest_closed(blocks: &[Block], domain: u64) -> Oldest
     ensures narrow { NarrowTo blocks.now (length blocks.now) }
 {
     let mut found = Oldest {
-        number: 18446744073709551615,
-        serial: 18446744073709551615,
+        number: u64::MAX,
+        serial: u64::MAX,
     };
-    let mut n = 0;
-    while n < blocks.len() {
-        let block = blocks[n];
+    for (n, &block) in blocks.iter().enumerate() {
         found = older(found, n as u64, block, domain);
-        n += 1;
     }
     found
 }

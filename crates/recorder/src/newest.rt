@@ -2,12 +2,13 @@
 ghost use Rattle.std.specs.Prelude.{◌≡◌, ◌+◌, ◌*◌, ◌%◌, ◌≤◌, ◌<◌, min, drop, get_or, length, take};
 ghost use Rattle.rules.specs.Drive.{overwritten};
 ghost use Rattle.rules.specs.Recorder.{last_of};
-ghost use Rattle.recorder.specs.Newest.{FewWritten, Gathers, Notes, PutsBlock, Within, parts_of};
+ghost use Rattle.recorder.specs.Newest.{FewWritten, Gathers, Notes, PutsBlock, Within, parts_of, written_of};
 
 use model::Block;
 use tables::is_held;
 
-// How many blocks the domain holds, and how many of their ADUs are written.
+// How many blocks the domain holds, and how many of their ADUs are written. The keys stand in a row beside it, which
+// `sort` and `fill` take as a slice.
 #[derive(Clone, Copy)]
 pub struct Gathered {
     pub keys: usize,
@@ -15,57 +16,32 @@ pub struct Gathered {
 }
 
 // Block n, added to what was gathered of the blocks before it, if the domain holds it.
-fn noted(
-    found: Gathered,
-    n: usize,
-    block: Block,
-    domain: u64,
-    keys: &mut [u64],
-    written: &mut [u64],
-) -> Gathered
-    requires { (n < 256) × (found.keys < 256) × (length keys.old ≡ 256) × (length written.old ≡ 256) × (block.written.0 ≤ 1048576) × (found.adus ≤ 268435456) }
-    ensures { Notes found n block domain keys.old written.old result keys.new written.new }
+fn noted(found: Gathered, n: usize, block: Block, domain: u64, keys: &mut [u64]) -> Gathered
+    requires { (n < 256) × (found.keys < 256) × (length keys.old ≡ 256) × (block.written.0 ≤ 1048576) × (found.adus ≤ 268435456) }
+    ensures { Notes found n block domain keys.old result keys.new }
 {
-    if is_held(block, domain) {
-        let at = found.keys;
-        let adus = block.written.0;
-        keys[at] = block.serial as u64 * 256 + n as u64;
-        written[n] = adus;
-        return Gathered {
-            keys: at + 1,
-            adus: found.adus + adus,
-        };
+    if !is_held(block, domain) {
+        return found;
     }
-    found
+    let at = found.keys;
+    keys[at] = block.serial as u64 * 256 + n as u64;
+    Gathered {
+        keys: at + 1,
+        adus: found.adus + block.written.0,
+    }
 }
 
-// One pass over lent records: a key for each block that the domain holds, and how many of its ADUs are written.
-pub(crate) fn gather(
-    blocks: &[Block],
-    domain: u64,
-    keys: &mut [u64],
-    written: &mut [u64],
-) -> Gathered
-    requires { (length blocks.now ≤ 256) × FewWritten blocks.now × (length keys.old ≡ 256) × (length written.old ≡ 256) }
-    ensures { Gathers blocks.now domain (length blocks.now) keys.old written.old result keys.new written.new }
+// One pass over lent records: a key for each block that the domain holds. How many of their ADUs are written stays in
+// the records.
+pub(crate) fn gather(blocks: &[Block], domain: u64, keys: &mut [u64]) -> Gathered
+    requires { (length blocks.now ≤ 256) × FewWritten blocks.now × (length keys.old ≡ 256) }
+    ensures { Gathers blocks.now domain (length blocks.now) keys.old result keys.new }
 {
     let mut found = Gathered { keys: 0, adus: 0 };
-    let mut n = 0;
-    while n < blocks.len() {
-        let block = blocks[n];
-        found = noted(found, n, block, domain, keys, written);
-        n += 1;
+    for (n, &block) in blocks.iter().enumerate() {
+        found = noted(found, n, block, domain, keys);
     }
     found
-}
-
-fn copy(part: &mut [u64], from: &[u64])
-    requires { length part.old ≡ length from.now }
-    ensures { part.new ≡ from.now }
-{
-    for i in 0..from.len() {
-        part[i] = from[i];
-    }
 }
 
 // A stretch of the store, into the words from a place on.
@@ -73,34 +49,26 @@ fn put_part(words: &mut [u64], to: usize, store: &[u64], from: usize, count: usi
     requires { (to + count ≤ length words.old) × (from + count ≤ length store.now) }
     ensures { words.new ≡ overwritten to (take count (drop from store.now)) words.old }
 {
-    let to_end = to + count;
-    let from_end = from + count;
-    copy(&mut words[to..to_end], &store[from..from_end]);
-}
-
-fn smaller(a: usize, b: usize) -> usize
-    ensures { result ≡ min a b }
-{
-    if a < b { a } else { b }
+    words[to..to + count].copy_from_slice(&store[from..from + count]);
 }
 
 // As many of the last ADUs of a key's block as there are words left to fill, into the end of those. Returns how many
 // words are left then.
 fn put_block(
     key: u64,
-    written: &[u64],
+    blocks: &[Block],
     capacity: usize,
     left: usize,
     store: &[u64],
     words: &mut [u64],
 ) -> usize
-    requires capacity_bound { (capacity ≤ 1048576) × (length written.now ≡ 256) × (left ≤ length words.old) }
-    requires key_in_bounds { key % 256 * capacity + get_or written.now (key % 256) 0 ≤ length store.now }
-    ensures { PutsBlock key written.now capacity left store.now words.old result words.new }
+    requires capacity_bound { (capacity ≤ 1048576) × (length blocks.now ≡ 256) × (left ≤ length words.old) }
+    requires key_in_bounds { key % 256 * capacity + get_or (written_of blocks.now) (key % 256) 0 ≤ length store.now }
+    ensures { PutsBlock key (written_of blocks.now) capacity left store.now words.old result words.new }
 {
     let n = (key % 256) as usize;
-    let full = written[n] as usize;
-    let part = smaller(full, left);
+    let full = blocks[n].written.0 as usize;
+    let part = full.min(left);
     let to = left - part;
     let end = n * capacity + full;
     put_part(words, to, store, end - part, part);
@@ -110,20 +78,22 @@ fn put_block(
 // The last so many of the ADUs of these blocks, from the last block back.
 pub(crate) fn fill(
     keys: &[u64],
-    written: &[u64],
+    blocks: &[Block],
     capacity: usize,
     count: usize,
     store: &[u64],
     words: &mut [u64],
 )
-    requires capacity_bound { (capacity ≤ 1048576) × (length written.now ≡ 256) × Within capacity store.now written.now keys.now }
-    requires count_in_bounds { (count ≤ length (parts_of capacity store.now written.now keys.now)) × (count ≤ length words.old) }
-    ensures { words.new ≡ overwritten 0 (last_of count (parts_of capacity store.now written.now keys.now)) words.old }
+    requires capacity_bound { (capacity ≤ 1048576) × (length blocks.now ≡ 256) × Within capacity store.now (written_of blocks.now) keys.now }
+    requires count_in_bounds { (count ≤ length (parts_of capacity store.now (written_of blocks.now) keys.now)) × (count ≤ length words.old) }
+    ensures { words.new ≡ overwritten 0 (last_of count (parts_of capacity store.now (written_of blocks.now) keys.now)) words.old }
 {
     let mut left = count;
-    let mut i = keys.len();
-    while 0 < left {
-        i -= 1;
-        left = put_block(keys[i], written, capacity, left, store, words);
+    // By place, which is what the proof counts by; a pair of place and key would be no plainer.
+    for i in (0..keys.len()).rev() {
+        if left == 0 {
+            break;
+        }
+        left = put_block(keys[i], blocks, capacity, left, store, words);
     }
 }

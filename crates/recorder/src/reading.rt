@@ -6,7 +6,7 @@ ghost use Rattle.rules.specs.Recorder.{last_of};
 ghost use Rattle.sorting.specs.Order.{in_order};
 ghost use Rattle.rules.specs.Calls.{latest};
 ghost use Rattle.tables.specs.Serving.{ServesFor, answering, served};
-ghost use Rattle.recorder.specs.Newest.{Fillable, FillsFrom, gathered_parts, parts_of};
+ghost use Rattle.recorder.specs.Newest.{Fillable, FillsFrom, gathered_parts, parts_of, written_of};
 ghost use Rattle.recorder.specs.Steps.{FillsLatest, Gives};
 
 use crate::choice::records_of;
@@ -15,70 +15,73 @@ use crate::samples::{is_out_of_range, may_read, no_samples};
 use crate::serving::{serve_words, show_shape};
 use geometry::{Adus, Config, adus_per_block};
 use lent_domains::domain_at;
-use model::{Answer, Domain, Refusal, Table};
+use model::{Answer, Block, Domain, Refusal, Table};
 use sorting::sort;
 use tables::Served;
 
-// Puts the keys in order, and fills in the last so many of the ADUs of their blocks.
-fn fill_ordered(
-    keys: &mut [u64],
-    written: &[u64],
+// What is read: a drive's configuration, its records and its store.
+#[derive(Clone, Copy)]
+struct Lent<'a> {
     config: Config,
-    count: Adus,
-    store: &[u64],
-    words: &mut [u64],
-)
-    requires fills_from { FillsFrom config (in_order keys.old) written.now count store.now words.old }
+    blocks: &'a [Block],
+    store: &'a [u64],
+}
+
+// Puts the keys in order, and fills in the last so many of the ADUs of their blocks.
+fn fill_ordered(lent: Lent, keys: &mut [u64], count: Adus, words: &mut [u64])
+    requires fills_from { FillsFrom lent.config (in_order keys.old) lent.blocks.now count lent.store.now words.old }
     requires keys_len_bound { length keys.old ≤ 256 }
-    ensures { words.new ≡ overwritten 0 (last_of count.0 (parts_of (adus_per_block config).0 store.now written.now (in_order keys.old))) words.old }
+    ensures { words.new ≡ overwritten 0 (last_of count.0 (parts_of (adus_per_block lent.entry.config).0 lent.entry.store.now (written_of lent.entry.blocks.now) (in_order keys.old))) words.old }
 {
     sort(keys);
-    let capacity = adus_per_block(config).0 as usize;
-    fill(keys, written, capacity, count.0 as usize, store, words);
+    let capacity = adus_per_block(lent.config).0 as usize;
+    fill(
+        keys,
+        lent.blocks,
+        capacity,
+        count.0 as usize,
+        lent.store,
+        words,
+    );
 }
 
 // 15; then the last so many of the ADUs that were gathered, oldest first.
 fn fill_latest(
-    config: Config,
+    lent: Lent,
     found: Gathered,
     keys: &mut [u64],
-    written: &[u64],
     count: Adus,
-    store: &[u64],
     words: &mut [u64],
 ) -> Answer
-    requires { Fillable config found keys.old written.now store.now × (count.0 ≤ length words.old) }
-    ensures { FillsLatest (gathered_parts config found keys.old written.now store.now) count words.old result words.new }
+    requires { Fillable lent.config found keys.old lent.blocks.now lent.store.now × (count.0 ≤ length words.old) }
+    ensures { FillsLatest (gathered_parts lent.entry.config found keys.old lent.entry.blocks.now lent.entry.store.now) count words.old result words.new }
 {
     if found.adus < count.0 {
         return Answer::Refused(Refusal::Extent);
     }
-    let end = found.keys;
-    fill_ordered(&mut keys[..end], written, config, count, store, words);
+    fill_ordered(lent, &mut keys[..found.keys], count, words);
     Answer::Done
 }
 
 // 6 and 7 for a domain with this record, and what then is asked and filled in.
 fn give_latest(
-    config: Config,
+    lent: Lent,
     owner: Domain,
     found: Gathered,
     keys: &mut [u64],
-    written: &[u64],
     count: Adus,
-    store: &[u64],
     words: &mut [u64],
 ) -> Answer
-    requires { Fillable config found keys.old written.now store.now }
-    ensures { Gives owner (gathered_parts config found keys.old written.now store.now) count words.old result words.new }
+    requires { Fillable lent.config found keys.old lent.blocks.now lent.store.now }
+    ensures { Gives owner (gathered_parts lent.entry.config found keys.old lent.entry.blocks.now lent.entry.store.now) count words.old result words.new }
 {
-    if may_read(owner, count) {
-        if (words.len() as u64) < count.0 {
-            return Answer::Refused(Refusal::Output);
-        }
-        return fill_latest(config, found, keys, written, count, store, words);
+    if !may_read(owner, count) {
+        return Answer::Refused(Refusal::Range);
     }
-    Answer::Refused(Refusal::Range)
+    if (words.len() as u64) < count.0 {
+        return Answer::Refused(Refusal::Output);
+    }
+    fill_latest(lent, found, keys, count, words)
 }
 
 // The last so many samples that a domain keeps, oldest first, into the front of the words. The table and the store stay
@@ -98,13 +101,15 @@ pub fn latest_in(
         show_shape(table);
         let config = table.config;
         let records = records_of(config.blocks);
-        let mut keys: [u64; 256] = [0; 256];
-        let mut written: [u64; 256] = [0; 256];
-        let found = gather(&table.blocks[..records], domain, &mut keys, &mut written);
+        let mut keys = [0; 256];
+        let found = gather(&table.blocks[..records], domain, &mut keys);
         let owner = domain_at(&table.domains, domain - 1);
-        return give_latest(
-            config, owner, found, &mut keys, &written, count, store, words,
-        );
+        let lent = Lent {
+            config,
+            blocks: &table.blocks,
+            store,
+        };
+        return give_latest(lent, owner, found, &mut keys, count, words);
     }
     answer
 }

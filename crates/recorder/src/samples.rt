@@ -2,11 +2,11 @@
 ghost use Rattle.std.specs.Prelude.{◌&&◌, ◌≡◌, ◌-◌};
 ghost use Rattle.rules.specs.Questions.{is_count};
 ghost use Rattle.rules.specs.Recorder.{has_recorder_shape};
-ghost use Rattle.recorder.specs.Samples.{is_out_of_range, is_over_quota, is_refused_with};
+ghost use Rattle.recorder.specs.Samples.{is_out_of_range, is_over_quota};
 ghost use Rattle.recorder.specs.Samples.{no_samples, sample_command};
 
 use geometry::Adus;
-use model::{Answer, Command, Domain};
+use model::{Answer, Command, Domain, Refusal};
 use tables::is_count;
 
 // Whether a domain can record.
@@ -27,26 +27,18 @@ pub(crate) fn may_read(domain: Domain, count: Adus) -> bool
 pub(crate) fn place_of(domain: u64) -> u64
     ensures { result ≡ domain - 1 }
 {
-    if domain == 0 { 0 } else { domain - 1 }
+    domain.saturating_sub(1)
 }
 
 // The write of one sample, for a domain with this record; of none, if it cannot record.
 pub(crate) fn sample_command(owner: Domain, domain: u64, sample: u64) -> Command
     ensures { result ≡ sample_command owner domain sample }
 {
-    if has_recorder_shape(owner) {
-        return Command::WriteByPlacement {
-            domain,
-            placement: 0,
-            start: sample,
-            count: Adus(1),
-        };
-    }
     Command::WriteByPlacement {
         domain,
         placement: 0,
         start: sample,
-        count: Adus(0),
+        count: Adus(u64::from(has_recorder_shape(owner))),
     }
 }
 
@@ -62,27 +54,16 @@ pub(crate) fn no_samples(domain: u64) -> Command
     }
 }
 
-// Refused with this number.
-fn is_refused_with(number: u64, answer: Answer) -> bool
-    ensures { result ≡ is_refused_with number answer }
-{
-    match answer {
-        Answer::Done => false,
-        Answer::Block(_) => false,
-        Answer::Refused(reason) => reason.number() == number,
-    }
-}
-
 // The domain would hold more than its quota.
 pub(crate) fn is_over_quota(answer: Answer) -> bool
     ensures { result ≡ is_over_quota answer }
 {
-    is_refused_with(13, answer)
+    answer == Answer::Refused(Refusal::Quota)
 }
 
 // An argument was out of range.
 pub(crate) fn is_out_of_range(answer: Answer) -> bool
     ensures { result ≡ is_out_of_range answer }
 {
-    is_refused_with(6, answer)
+    answer == Answer::Refused(Refusal::Range)
 }

@@ -1,13 +1,12 @@
 -- What the marks tell of the listed blocks: each of them, by rising serial.
 use Prim.Native.Nat.{ℕ, zero, suc, ◌+◌, ◌*◌, ◌≤◌, ◌<◌}
 use mathlib.Core.Bool.{Bool, true}
-use mathlib.Core.List.{List, [], ◌∷◌, ◌++◌, append_assoc, append-nil, map, map-append}
+use mathlib.Core.List.{List, [], ◌∷◌, ◌++◌, append-nil, map, map-append}
 use mathlib.Core.Option.{Option, none, some}
 use mathlib.Core.Path.{◌≡◌, refl, sym, ap, ap₂, ◌∙◌, subst}
 use native.Mathlib.Nat.{zero-add}
 use native.Mathlib.Omega.{arith}
-use lib.ListN.{get_or-append, drop, get_or, length, length-append, length-map, length-set, replicate, set, take}
-use lib.Seq.{get_or_at, set_at, take-append_seam}
+use lib.ListN.{get_or, length, length-append, length-map, length-set, set}
 use borrow.Author.Tests.{lt-ltb}
 use Rattle.geometry.proofs.Laws.Shape.{both, by_test, is_between}
 use Rattle.geometry.specs.Address.{is_domain_id}
@@ -30,7 +29,7 @@ use Rattle.rules.specs.Soundness.{sound}
 use Rattle.scan.proofs.Marking.{other_mark, set_mark}
 use Rattle.scan.proofs.Summaries.{Present, all_there}
 use Rattle.scan.proofs.Telling.{told_long}
-use Rattle.scan.specs.Listing.{byte_in, gathered_count, index_in, is_listed_for, keys_in_order, keys_noted, list_key, listed_from, no_keys, noted_from, noted_with, number_in, order_of, told_to, told_with}
+use Rattle.scan.specs.Listing.{byte_in, index_in, is_listed_for, list_key, listed_from, noted_from, noted_with, number_in, told_to, told_with}
 use Rattle.scan.specs.Marks.{mark, mark_count}
 use Rattle.scan.specs.Summary.{ListGathered, Sees, SeesList, SubjectOf, ToldAt, present}
 use Rattle.scan.specs.declared.scan.Subject.{Subject}
@@ -43,56 +42,13 @@ use Rattle.tables.specs.Serving.{drive}
 
 -- ---- The keys that are noted
 
--- The row begins with these keys, and ends with their number.
-record Noted (row keys : List ℕ) : Type 0 where
-  rest : List ℕ
-  are : keys ≡ row ++ (rest ++ (length row ∷ []))
-  room : length row + length rest ≡ 256
-
-none_noted : Noted [] no_keys
-none_noted = record { rest = replicate 256 0; are = refl; room = refl }
-
--- Their number is read at the end.
-noted_count : (row keys : List ℕ) → Noted row keys → keys_noted keys ≡ length row
-noted_count row keys n =
-    let front = row ++ n.rest in
-    ap (λ (l : List ℕ). get_or l 256 0) (n.are ∙ sym (append_assoc row n.rest (length row ∷ [])))
-    ∙ get_or_at front (length row) [] 0 256 (length-append row n.rest ∙ n.room)
-
--- One key more.
-one_noted : (row keys : List ℕ) (key : ℕ) → Noted row keys → length row < 256
-    → Noted (row ++ (key ∷ [])) (set (set keys (keys_noted keys) key) 256 (keys_noted keys + 1))
-one_noted row keys key n l = go n.rest n.are n.room
-  where
-    go : (rest : List ℕ) → keys ≡ row ++ (rest ++ (length row ∷ [])) → length row + length rest ≡ 256
-        → Noted (row ++ (key ∷ [])) (set (set keys (keys_noted keys) key) 256 (keys_noted keys + 1))
-    go [] are room = absurd (omega (arith, l, room))
-    go (r ∷ rest) are room =
-        let c = length row in
-        let count = noted_count row keys n in
-        let one : set keys (keys_noted keys) key ≡ row ++ (key ∷ (rest ++ (c ∷ []))) =
-        ap₂ (λ (x : List ℕ) (i : ℕ). set x i key) are count ∙ set_at row r (rest ++ (c ∷ [])) key c refl in
-        let split : row ++ (key ∷ (rest ++ (c ∷ []))) ≡ (row ++ (key ∷ rest)) ++ (c ∷ []) = sym (append_assoc row (key ∷ rest) (c ∷ [])) in
-        let long : length (row ++ (key ∷ rest)) ≡ 256 = length-append row (key ∷ rest) ∙ room in
-        let next : length (row ++ (key ∷ [])) ≡ c + 1 = length-append row (key ∷ []) in
-        record {
-          rest = rest;
-          are =
-              ap₂ (λ (x : List ℕ) (i : ℕ). set x 256 (i + 1)) (one ∙ split) count
-              ∙ set_at (row ++ (key ∷ rest)) c [] (c + 1) 256 long
-              ∙ append_assoc row (key ∷ rest) ((c + 1) ∷ [])
-              ∙ ap (λ (i : ℕ). row ++ (key ∷ (rest ++ (i ∷ [])))) (sym next)
-              ∙ sym (append_assoc row (key ∷ []) (rest ++ (length (row ++ (key ∷ [])) ∷ [])));
-          room = omega (arith, next, room);
-        }
-
-module _ (t : Table) (s : Subject) where
+module _ (t : Table) (s : Subject) (which : Listed) where
   -- Whether block n is listed, and its key.
   abbrev passes : ℕ → Bool
-  passes n = is_listed_for s (block_at t n)
+  passes n = is_listed_for s which (block_at t n)
 
   abbrev key : ℕ → ℕ
-  key n = list_key s n (block_at t n)
+  key n = list_key s which n (block_at t n)
 
   -- No more keys than blocks.
   few_keys : (n : ℕ) → length (keys_to passes key n) ≤ n
@@ -103,32 +59,27 @@ module _ (t : Table) (s : Subject) where
       (λ e. rw e (omega (arith, few_keys n, length-append (keys_to passes key n) (key n ∷ []))))
       (λ e. rw (e, append-nil (keys_to passes key n)) (omega (arith, few_keys n)))
 
-  noted_with_lem : (n : ℕ) (keys : List ℕ) → n < 256 → Noted (keys_to passes key n) keys
-      → Noted (keys_to passes key (suc n)) (noted_with s n (block_at t n) keys)
+  noted_with_lem : (n : ℕ) → n < 256 → noted_with s which n (block_at t n) (keys_to passes key n) ≡ keys_to passes key (suc n)
   unfolding keys_to noted_with
-  noted_with_lem n keys l noted =
+  noted_with_lem n l =
       let few : length (keys_to passes key n) < 256 = omega (arith, l, few_keys n) in
-      let count = noted_count (keys_to passes key n) keys noted in
       by_test (passes n)
-      (λ e. rw (e, lt-ltb (keys_noted keys) 256 (omega (arith, count, few))) (one_noted (keys_to passes key n) keys (key n) noted few))
-      (λ e. rw (e, append-nil (keys_to passes key n)) noted)
+      (λ e. rw (e, lt-ltb (length (keys_to passes key n)) 256 few))
+      (λ e. rw (e, append-nil (keys_to passes key n)))
 
   -- So it is of every block of bs from number n on, which are the table's.
-  noted_from_lem : (n : ℕ) (bs : List Block) (keys : List ℕ) → n + length bs ≤ 256
+  noted_from_lem : (n : ℕ) (bs : List Block) → n + length bs ≤ 256
       → ((i : ℕ) → i < length bs → get_or bs i clear_block ≡ block_at t (n + i))
-      → Noted (keys_to passes key n) keys → Noted (keys_to passes key (n + length bs)) (noted_from s n bs keys)
+      → noted_from s which n bs (keys_to passes key n) ≡ keys_to passes key (n + length bs)
   unfolding noted_from
-  noted_from_lem n [] keys l are noted = let same : n + 0 ≡ n = omega arith in rw same noted
-  noted_from_lem n (b ∷ bs) keys l are noted =
+  noted_from_lem n [] l are = let same : n + 0 ≡ n = omega arith in rw same
+  noted_from_lem n (b ∷ bs) l are =
       let same : n + length (b ∷ bs) ≡ n + 1 + length bs = omega arith in
       let next : suc n ≡ n + 1 = omega arith in
       let here : b ≡ block_at t n = are 0 (omega arith) ∙ ap (block_at t) (zero_last n) in
-      rw (same)
-      (noted_from_lem (n + 1) bs (noted_with s n b keys) (omega (arith, l))
-      (λ i k. are (suc i) (omega (arith, k)) ∙ ap (block_at t) (one_on n i))
-      (subst (λ (m : ℕ). Noted (keys_to passes key m) (noted_with s n b keys)) next
-      (subst (λ (z : Block). Noted (keys_to passes key (suc n)) (noted_with s n z keys)) (sym here)
-      (noted_with_lem n keys (omega (arith, l)) noted))))
+      ap (noted_from s which (n + 1) bs) (ap (λ (z : Block). noted_with s which n z (keys_to passes key n)) here ∙ noted_with_lem n (omega (arith, l)) ∙ ap (keys_to passes key) next)
+      ∙ noted_from_lem (n + 1) bs (omega (arith, l)) (λ i k. are (suc i) (omega (arith, k)) ∙ ap (block_at t) (one_on n i))
+      ∙ ap (keys_to passes key) (sym same)
     where
       zero_last : (k : ℕ) → k + 0 ≡ k
       zero_last k = omega arith
@@ -210,12 +161,9 @@ get_map f [] i l = absurd (omega (arith, l))
 get_map f (x ∷ xs) zero l = refl
 get_map f (x ∷ xs) (suc i) l = get_map f xs i (omega (arith, l))
 
-module _ (t : Table) (s : Subject) (domain-id : is_domain_id s.domain ≡ true) (is_sound : sound t ≡ true) (there : Present t) where
+module _ (t : Table) (s : Subject) (which : Listed) (domain-id : is_domain_id s.domain ≡ true) (is_sound : sound t ≡ true) (there : Present t) where
   abbrev d : ℕ
   d = s.domain
-
-  abbrev which : Listed
-  which = s.listed
 
   abbrev v : Drive
   v = drive t []
@@ -234,69 +182,60 @@ module _ (t : Table) (s : Subject) (domain-id : is_domain_id s.domain ≡ true) 
 
   -- The keys of the blocks by rising serial are those of the listed blocks.
   found_keys : (serial : ℕ) (found : Option ℕ) → WithSerial t d serial (size t) found
-      → told_of (key_if (passes t s) (key t s)) found ≡ map (key t s) (told_of (if_listed t which) found)
+      → told_of (key_if (passes t s which) (key t s which)) found ≡ map (key t s which) (told_of (if_listed t which) found)
   found_keys serial none o = refl
   found_keys serial (some n) o = rw o.1 (by_test (is_listed which (block_at t n)) (λ e. rw e) (λ e. rw e))
 
-  keys_to_lem : (up_to_lem : ℕ) → by_serial_to (key_if (passes t s) (key t s)) t d up_to_lem ≡ map (key t s) (by_serial_to (if_listed t which) t d up_to_lem)
+  keys_to_lem : (up_to_lem : ℕ) → by_serial_to (key_if (passes t s which) (key t s which)) t d up_to_lem ≡ map (key t s which) (by_serial_to (if_listed t which) t d up_to_lem)
   unfolding by_serial_to
   keys_to_lem zero = refl
   keys_to_lem (suc serial) =
       ap₂ (λ (xs ys : List ℕ). xs ++ ys) (keys_to_lem serial) (found_keys (suc serial) (block_with t d (suc serial)) (serial_found t d (suc serial)))
-      ∙ sym (map-append (key t s) (by_serial_to (if_listed t which) t d serial) (told_of (if_listed t which) (block_with t d (suc serial))))
+      ∙ sym (map-append (key t s which) (by_serial_to (if_listed t which) t d serial) (told_of (if_listed t which) (block_with t d (suc serial))))
 
   -- They are the keys in order.
-  order_is : in_order (keys_to (passes t s) (key t s) (size t)) ≡ map (key t s) (listed_blocks t d which)
+  order_is : in_order (keys_to (passes t s which) (key t s which) (size t)) ≡ map (key t s which) (listed_blocks t d which)
   order_is =
-      ranked v d low facts (passes t s) (key t s) (λ serial. serial * 16777216)
+      ranked v d low facts (passes t s which) (key t s which) (λ serial. serial * 16777216)
       (λ n l e. (both (held_by d (block_at t n)) (is_listed which (block_at t n)) e).0)
       (λ n l e. (omega (arith), omega (arith, l, there.most, index_few n, mark_few which (block_at t n))))
       (λ serial. omega arith)
       ∙ keys_to_lem (domain_at t d).last
 
-  module _ (first marks : List ℕ) (long : length first ≡ mark_count) (told : marks ≡ listed_from s 0 (present t) first) where
+  module _ (first marks : List ℕ) (long : length first ≡ mark_count) (told : marks ≡ listed_from s which 0 (present t) first) where
     abbrev keys : List ℕ
-    keys = noted_from s 0 (present t) no_keys
+    keys = noted_from s which 0 (present t) []
 
     abbrev row : List ℕ
-    row = keys_to (passes t s) (key t s) (size t)
+    row = keys_to (passes t s which) (key t s which) (size t)
 
     abbrev order : List ℕ
     order = listed_blocks t d which
 
-    all_noted : Noted row keys
+    all_noted : keys ≡ row
     unfolding keys_to
     all_noted =
-        subst (λ (n : ℕ). Noted (keys_to (passes t s) (key t s) n) keys) (zero-add (length (present t)) ∙ there.long)
-        (noted_from_lem t s 0 (present t) no_keys (omega (arith, there.long, there.most))
-        (λ i l. there.records i (omega (arith, l, there.long)) ∙ ap (block_at t) (sym (zero-add i))) none_noted)
+        noted_from_lem t s which 0 (present t) (omega (arith, there.long, there.most))
+        (λ i l. there.records i (omega (arith, l, there.long)) ∙ ap (block_at t) (sym (zero-add i)))
+        ∙ ap (keys_to (passes t s which) (key t s which)) (zero-add (length (present t)) ∙ there.long)
 
-    count_is : gathered_count (keys_noted keys) ≡ length row
-    count_is = omega (arith, noted_count row keys all_noted, few_keys t s (size t), there.most)
+    -- The keys of the listed blocks in order.
+    in_order_lem : in_order keys ≡ map (key t s which) order
+    in_order_lem = ap in_order all_noted ∙ order_is
 
-    -- The keys of the listed blocks come first, in their order.
-    in_order_lem : order_of keys ≡ map (key t s) order
-    in_order_lem =
-        ap₂ (λ (k : ℕ) (l : List ℕ). in_order (take k l)) count_is all_noted.are
-        ∙ ap in_order (take-append_seam row (all_noted.rest ++ (length row ∷ [])))
-        ∙ order_is
+    as_many : length order ≡ length keys
+    as_many = sym (length-map order (key t s which)) ∙ ap length (sym order_is) ∙ in_order_length row ∙ ap length (sym all_noted)
 
-    as_many : length order ≡ length row
-    as_many = sym (length-map order (key t s)) ∙ ap length (sym order_is) ∙ in_order_length row
+    key_at : (i : ℕ) → i < length order → get_or (in_order keys) i 0 ≡ key t s which (get_or order i 0)
+    key_at i l = ap (λ (xs : List ℕ). get_or xs i 0) in_order_lem ∙ get_map (key t s which) order i l
 
-    key_at : (i : ℕ) → i < length order → get_or (keys_in_order keys) i 0 ≡ key t s (get_or order i 0)
-    unfolding keys_in_order
-    key_at i l =
-        get_or-append (order_of keys) (drop (gathered_count (keys_noted keys)) keys) 0 i (rw in_order_lem (omega (arith, l, length-map order (key t s))))
-        ∙ ap (λ (xs : List ℕ). get_or xs i 0) in_order_lem
-        ∙ get_map (key t s) order i l
-
-    tells : (i : ℕ) → i < length order → Tells (key t s (get_or order i 0)) marks i
+    tells : (i : ℕ) → i < length order → Tells (key t s which (get_or order i 0)) marks i
     unfolding listed_from
     tells i l =
-        subst (λ (ms : List ℕ). Tells (key t s (get_or order i 0)) ms i) (sym told)
-        (subst (λ (k : ℕ). Tells k (told_to (keys_in_order keys) (gathered_count (keys_noted keys)) first) i) (key_at i l)
-        (told_at (keys_in_order keys) (gathered_count (keys_noted keys)) i first (omega arith) (omega (arith, l, as_many, count_is)) long))
+        let few : length keys ≤ 256 = omega (arith, ap length all_noted, few_keys t s which (size t), there.most) in
+        subst (λ (ms : List ℕ). Tells (key t s which (get_or order i 0)) ms i) (sym told)
+        (subst (λ (k : ℕ). Tells k (told_to (in_order keys) (length keys) first) i) (key_at i l)
+        (told_at (in_order keys) (length keys) i first few (omega (arith, l, as_many)) long))
 
     pub told_listed : SubjectOf t s → (i : ℕ) → i < length order → ToldAt t which (get_or order i 0) marks i
     told_listed a i l =
@@ -311,10 +250,10 @@ module _ (t : Table) (s : Subject) (domain-id : is_domain_id s.domain ≡ true) 
         }
 
 -- So the list is seen.
-pub sees_list : (t : Table) (s : Subject) (x : Summary) (marks : List ℕ) → SubjectOf t s → Sees t s.domain x → length t.blocks ≡ 256
-    → ListGathered t s marks → SeesList t s.domain s.listed x marks
-sees_list t s x marks a sees all g = record {
+pub sees_list : (t : Table) (s : Subject) (which : Listed) (x : Summary) (marks : List ℕ) → SubjectOf t s → Sees t s.domain x → length t.blocks ≡ 256
+    → ListGathered t s which marks → SeesList t s.domain which x marks
+sees_list t s which x marks a sees all g = record {
   told = λ y id i l.
       let is_sound = sym sees.tested ∙ y in
-      told_listed t s id is_sound (all_there t (apart t is_sound).limits all) g.0 marks g.1 g.2 a i l;
+      told_listed t s which id is_sound (all_there t (apart t is_sound).limits all) g.0 marks g.1 g.2 a i l;
 }

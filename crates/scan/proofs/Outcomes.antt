@@ -24,7 +24,10 @@ use Rattle.scan.specs.First.{Begins, FirstPassed, first_asked}
 use Rattle.scan.specs.Summary.{Seen}
 use Rattle.scan.specs.declared.summary.Summary.{Summary}
 use Rattle.tables.proofs.Answering.{first_refused, first_yes, then_changed, then_refused}
-use Rattle.tables.specs.Changing.{changed_table, leaving, outcome_served}
+use Rattle.std.specs.Prelude.{Result}
+use Rattle.std.specs.Result.{IsErrAnd}
+use Rattle.std.proofs.lemmas.Result.{err_from_is_err_and}
+use Rattle.tables.specs.Changing.{changed_table, leaving, outcome_from, outcome_served}
 use Rattle.tables.specs.Serving.{ServesCommand, answering, drive, served}
 use Rattle.tables.specs.declared.change.Change.{Change}
 use Rattle.tables.specs.declared.change.Outcome.{Outcome}
@@ -53,12 +56,14 @@ first_outcome t c r reason store words bytes q f =
     rw (f, changed_nothing t) (first_refused (drive t store) (calling c store words bytes) words bytes reason (q ∙ first_asked_lem t c store words bytes))
 
 -- .. or a later one is, ..
-pub then_outcome : (t : Table) (c : Command) (r : Outcome) (reason : Refusal) (store words bytes : List ℕ)
+pub then_outcome : (t : Table) (c : Command) (r : Result Outcome Refusal) (reason : Refusal) (store words bytes : List ℕ)
     → Begins t c (length store)
-    → number_of reason ≡ first_no (later_questions c (drive t store) (calling c store words bytes)) → r ≡ leaving (Refused reason)
-    → ServesCommand t c store words bytes (served (outcome_served t r) store words bytes)
-then_outcome t c r reason store words bytes first q f =
-    rw (f, changed_nothing t) (then_refused (drive t store) (calling c store words bytes) words bytes reason (sym (first_asked_lem t c store words bytes) ∙ first) q)
+    → number_of reason ≡ first_no (later_questions c (drive t store) (calling c store words bytes))
+    → IsErrAnd r (λ given. given ≡ reason)
+    → ServesCommand t c store words bytes (served (outcome_served t (outcome_from r)) store words bytes)
+then_outcome t c r reason store words bytes first q gives =
+    let p = err_from_is_err_and r gives in
+    rw (p.1, p.2, changed_nothing t) (then_refused (drive t store) (calling c store words bytes) words bytes reason (sym (first_asked_lem t c store words bytes) ∙ first) q)
 
 -- .. or all are answered yes, and the table is changed.
 pub change_outcome : (t : Table) (c : Command) (answer : Answer) (change : Change) (left : Table) (values store words bytes : List ℕ)

@@ -8,12 +8,14 @@ use native.Mathlib.Omega.{arith}
 use lib.Dec.{eqb, ltb}
 use lib.ListN.{get_or, length}
 use borrow.Author.Tests.{eq-eqb, eqb-true, le-leb, lt-ltb, ltb-true, ne_eqb}
+use Rattle.std.specs.Prelude.{Option as Maybe, Some, None}
 use Rattle.geometry.proofs.Laws.Shape.{both, by_test}
 use Rattle.geometry.specs.Address.{is_domain_id}
 use Rattle.model.specs.declared.block.Block.{Block}
 use Rattle.model.specs.declared.block.State.{State}
 use Rattle.model.specs.declared.block.State.TheVariants.{Closed, Free, Open}
 use Rattle.model.specs.declared.block.Way.TheVariants.{Erase, Placement}
+use Rattle.model.specs.declared.table.Domain.{Domain}
 use Rattle.model.specs.declared.table.Table.{Table}
 use Rattle.rules.proofs.Counting.{all_each, all_next, clash, same_test}
 use Rattle.rules.proofs.Kept.Tested.{block_facts, domain_facts, each_domain_lem, owned_by}
@@ -21,11 +23,11 @@ use Rattle.rules.proofs.Soundness.{apart}
 use Rattle.rules.specs.Drive.{block_at, clear_block, domain_at, held_by, held_count, is_free_state, is_open_for, is_placed_state, open_block, open_block_to, open_count, size}
 use Rattle.rules.specs.Soundness.{domain_sound, sound, state_below}
 use Rattle.scan.proofs.Places.{place_alone, place_below}
-use Rattle.scan.proofs.Steps.{About, Marked, Next, at_place, scanned_next}
+use Rattle.scan.proofs.Steps.{Fitting, Marked, Next, at_place, scanned_next}
 use Rattle.scan.specs.Clauses.{blocks_sound, holder_record, last_to, place_for, place_in, place_of}
 use Rattle.scan.specs.Marks.{mark}
 use Rattle.scan.specs.Scan.{Scanned, Walked, chain_passes}
-use Rattle.scan.specs.Summary.{found_in, found_of, open_at}
+use Rattle.scan.specs.Summary.{found_in, found_there, open_at}
 use Rattle.scan.specs.declared.scan.Subject.{Subject}
 
 -- ---- The scan
@@ -44,7 +46,17 @@ pub record Told (t : Table) (m : ℕ) (ok : Bool) (after : List ℕ) : Type 0 wh
   pub tested : ok ≡ blocks_sound t m
   pub marked : ok ≡ true → Marked t m after
 
-pub walked_told : (t : Table) (s : Subject) (all : List Block) (n : ℕ) (bs : List Block) (ok : Bool) (x y : List ℕ) → About t s → n + length bs ≤ 256
+-- The marks stay as many.
+pub walked_long : (s : Subject) (rs : List Domain) (all : List Block) (n : ℕ) (bs : List Block) (ok : Bool) (x y : List ℕ) → Walked s rs all n bs ok x y
+    → length y ≡ length x
+unfolding Walked
+walked_long s rs all n [] ok x y walk = ap length walk.1
+walked_long s rs all n (b ∷ bs) ok x y walk =
+    by_test (chain_passes all walk.1 b walk.0)
+    (λ q. walked_long s rs all (n + 1) bs ok walk.1 y (walk.4 q) ∙ walk.2.entries)
+    (λ q. ap length (walk.3 q).1 ∙ walk.2.entries)
+
+pub walked_told : (t : Table) (s : Subject) (all : List Block) (n : ℕ) (bs : List Block) (ok : Bool) (x y : List ℕ) → Fitting t s → n + length bs ≤ 256
     → n + length bs ≤ length all → ((i : ℕ) → i < length bs → block_at t (n + i) ≡ get_or bs i clear_block)
     → ((j : ℕ) → j < length all → get_or all j clear_block ≡ block_at t j) → Marked t n x → blocks_sound t n ≡ true
     → Walked s t.domains all n bs ok x y → Told t (n + length bs) ok y
@@ -123,12 +135,12 @@ at_place_lem b d p id = go b.state
         eq-eqb (place_for b.holder q) (place_for d p) (rw (eqb-true b.holder d f.0, eqb-true q p f.1)))
 
 -- What stands at the place, counted from 1, as a block.
-abbrev numbered : ℕ → ℕ
-numbered last = cond (eqb last 0) 256 (last - 1)
+abbrev numbered : ℕ → Maybe ℕ
+numbered last = cond (eqb last 0) None (Some (last - 1))
 
 -- The last block at a placement's place is its open block.
 open_last : (t : Table) (d p n : ℕ) → n ≤ 256 → is_domain_id d && ltb p 16 ≡ true
-    → found_in (found_of (numbered (last_to (at_place t (place_for d p)) n))) ≡ open_block_to t d p n
+    → found_in (found_there (numbered (last_to (at_place t (place_for d p)) n))) ≡ open_block_to t d p n
 unfolding last_to open_block_to
 open_last t d p zero l id = refl
 open_last t d p (suc n) l id =
@@ -179,21 +191,21 @@ open_none t d p (suc n) y l id =
     (λ q. clash (is_domain_id d && ltb p 16) (open_ranges t d p n y (omega (arith, l)) q) id)
     (λ q. rw q (open_none t d p n y (omega (arith, l)) id))
 
--- Which of two numbers is taken.
-pub picked : (c : Bool) (a b : ℕ) → c ≡ true → cond c a b ≡ a
+-- Which of two is taken.
+picked : (c : Bool) (a b : Maybe ℕ) → c ≡ true → cond c a b ≡ a
 picked true a b e = refl
 picked false a b e = absurd (true≢false (sym e))
 
-pub passed_by : (c : Bool) (a b : ℕ) → c ≡ false → cond c a b ≡ b
+passed_by : (c : Bool) (a b : Maybe ℕ) → c ≡ false → cond c a b ≡ b
 passed_by true a b e = absurd (true≢false e)
 passed_by false a b e = refl
 
 -- So the marks tell it.
-pub open_told : (t : Table) (d p : ℕ) (m : List ℕ) → sound t ≡ true → size t ≤ 256 → Marked t (size t) m → found_in (found_of (open_at m d p)) ≡ open_block t d p
+pub open_told : (t : Table) (d p : ℕ) (m : List ℕ) → sound t ≡ true → size t ≤ 256 → Marked t (size t) m → found_in (found_there (open_at m d p)) ≡ open_block t d p
 open_told t d p m y l w = by_test (is_domain_id d && ltb p 16)
-    (λ e. ap (λ (f : ℕ). found_in (found_of f)) (picked (is_domain_id d && ltb p 16) (numbered (mark m (32 + place_for d p))) 256 e
+    (λ e. ap (λ (f : Maybe ℕ). found_in (found_there f)) (picked (is_domain_id d && ltb p 16) (numbered (mark m (32 + place_for d p))) None e
     ∙ ap numbered (w.taken (place_for d p) (place_below d p e))) ∙ open_last t d p (size t) l e)
-    (λ e. ap (λ (f : ℕ). found_in (found_of f)) (passed_by (is_domain_id d && ltb p 16) (numbered (mark m (32 + place_for d p))) 256 e)
+    (λ e. ap (λ (f : Maybe ℕ). found_in (found_there f)) (passed_by (is_domain_id d && ltb p 16) (numbered (mark m (32 + place_for d p))) None e)
     ∙ sym (open_none t d p (size t) y (omega arith) e))
 
 -- It is one of the drive's.

@@ -4,8 +4,7 @@ use mathlib.Core.Bool.{true}
 use mathlib.Core.List.{List, [], ◌∷◌, ◌++◌}
 use mathlib.Core.Path.{◌≡◌, refl, sym, ap, ◌∙◌}
 use native.Mathlib.Omega.{arith}
-use lib.ListN.{drop, length, length-take, set, take, take-append-drop}
-use lib.Seq.{set_out}
+use lib.ListN.{drop, set, take, take-append-drop}
 use borrow.Author.Tests.{leb-true, ne_eqb}
 use Rattle.geometry.proofs.Laws.Shape.{by_test, limits}
 use Rattle.geometry.specs.Address.{is_domain_id}
@@ -18,11 +17,11 @@ use Rattle.rules.proofs.Counting.{count_most}
 use Rattle.rules.proofs.Soundness.{apart}
 use Rattle.rules.specs.Blocks.{pulsed}
 use Rattle.rules.specs.Domains.{coverage, deleted_domain, reserved_by}
-use Rattle.rules.specs.Drive.{block_at, clear_block, held_by, held_count, size, with_block, with_domain}
+use Rattle.rules.specs.Drive.{block_at, held_by, held_count, size, with_block, with_domain}
 use Rattle.rules.specs.Soundness.{sound}
 use Rattle.scan.specs.Summary.{Sees}
 use Rattle.scan.specs.declared.summary.Summary.{Summary}
-use Rattle.tables.specs.Changing.{block_change, changed_blocks, changed_table, deletion_of, domain_change, no_block, no_change, opening_change, present_blocks, pulse_change, with_owner}
+use Rattle.tables.specs.Changing.{block_change, changed_blocks, changed_table, deletion_of, domain_change, no_change, opening_change, present_blocks, pulse_change, with_owner}
 
 -- ---- Limits
 
@@ -62,21 +61,10 @@ few_present c = by_test (within_limits c) (λ e. rw e (limits c e).ranges.blocks
 pub all_present : (c : Config) → within_limits c ≡ true → present_blocks c ≡ c.blocks
 all_present c e = rw e
 
--- As many records as there are blocks, or fewer.
-few_records : (t : Table) → length (take (present_blocks t.config) t.blocks) ≤ 256
-few_records t =
-    rw (length-take (present_blocks t.config) t.blocks) (omega (arith, few_present t.config))
-
--- The number that stands for none changes none.
-none_put : (bs : List Block) (b : Block) → length bs ≤ 256 → set bs no_block b ≡ bs
-none_put bs b l = set_out bs no_block b (omega (arith, l))
-
 -- Nothing is changed, ..
 pub changed_nothing : (t : Table) → changed_table no_change t ≡ t
 unfolding changed_blocks with_owner
-changed_nothing t =
-    let bs = take (present_blocks t.config) t.blocks in
-    rw (none_put bs clear_block (few_records t), take-append-drop (present_blocks t.config) t.blocks)
+changed_nothing t = rw (take-append-drop (present_blocks t.config) t.blocks)
 
 -- .. a block's record and a domain's, ..
 pub changed_opening : (t : Table) (n : ℕ) (b : Block) (d : ℕ) (r : Domain) → within_limits t.config ≡ true → n < size t → ¬ (d ≡ 0)
@@ -95,25 +83,18 @@ changed_block t n b e l =
     rw (set_beyond (present_blocks t.config) t.blocks n b (rw e l))
 
 -- .. a domain's alone, ..
-pub changed_owner : (t : Table) (b : Block) (d : ℕ) (r : Domain) → ¬ (d ≡ 0) → changed_table (opening_change no_block b d r) t ≡ with_domain d r t
-unfolding changed_blocks with_owner
-changed_owner t b d r ne =
-    let bs = take (present_blocks t.config) t.blocks in
-    rw (none_put bs b (few_records t), ne_eqb d 0 ne, take-append-drop (present_blocks t.config) t.blocks)
-
 pub changed_domain_lem : (t : Table) (d : ℕ) (r : Domain) → ¬ (d ≡ 0) → changed_table (domain_change d r) t ≡ with_domain d r t
-changed_domain_lem t d r ne = changed_owner t clear_block d r ne
+unfolding changed_blocks with_owner
+changed_domain_lem t d r ne = rw (ne_eqb d 0 ne, take-append-drop (present_blocks t.config) t.blocks)
 
 -- .. all blocks of a domain, ..
 pub changed_deletion : (t : Table) (d : ℕ) → within_limits t.config ≡ true → ¬ (d ≡ 0) → changed_table (deletion_of d) t ≡ deleted_domain d t
 unfolding changed_blocks with_owner deleted_domain
 changed_deletion t d e ne =
-    let bs = take (present_blocks t.config) t.blocks in
-    rw (none_put bs clear_block (few_records t), ne_eqb d 0 ne, e)
+    rw (ne_eqb d 0 ne, e)
 
 -- .. and every open block.
 pub changed_pulse : (t : Table) (seconds : ℕ) → within_limits t.config ≡ true → changed_table (pulse_change seconds) t ≡ pulsed seconds t
 unfolding changed_blocks with_owner
 changed_pulse t seconds e =
-    let bs = take (present_blocks t.config) t.blocks in
-    rw (none_put bs clear_block (few_records t), e)
+    rw e

@@ -7,6 +7,7 @@ use native.Mathlib.Omega.{arith}
 use lib.Dec.{eqb, ltb}
 use lib.ListN.{get_or, length, length-set}
 use borrow.Author.Tests.{eq-eqb, eqb-true, le-leb, lt-ltb, ltb-true, ne_eqb}
+use Rattle.std.specs.Prelude.{Option, Some, None}
 use Rattle.geometry.proofs.Laws.Shape.{both, by_test, is_between}
 use Rattle.geometry.specs.Address.{is_domain_id}
 use Rattle.geometry.specs.Shape.{adus_per_block}
@@ -21,7 +22,7 @@ use Rattle.rules.proofs.Kept.Tested.{block_facts, owned_in}
 use Rattle.rules.specs.Counting.{all_to, count_to}
 use Rattle.rules.specs.Drive.{block_at, clear_block, held_by, is_free, is_free_state, is_open, open_of}
 use Rattle.rules.specs.Soundness.{block_sound, counts_kept, free_is_clear, holder_exists, is_clear, placement_exists, serial_given, serials_differ}
-use Rattle.scan.proofs.Chains.{Chain, chain_tells, key_held, last_most, last_next, last_none}
+use Rattle.scan.proofs.Chains.{Chain, chain_tells, key_held, last_next, last_none}
 use Rattle.scan.proofs.Marking.{chain_ends, other_mark, set_mark}
 use Rattle.scan.specs.Clauses.{domain_index, holder_record, key_of, last_to, place_for, place_in, place_new, place_of, same_key, serial_key, serial_new}
 use Rattle.scan.specs.Marks.{Linked, chain_differs, mark, mark_count, raised}
@@ -29,7 +30,7 @@ use Rattle.scan.specs.Scan.{HeldScanned, Scanned, chain_passes, counted, is_soun
 use Rattle.scan.specs.declared.scan.Subject.{Subject}
 
 -- The subject has what the tests need of the table's configuration.
-pub record About (t : Table) (s : Subject) : Type 0 where
+pub record Fitting (t : Table) (s : Subject) : Type 0 where
   pub same_period : s.period ≡ t.config.period
   pub same_capacity : s.capacity ≡ adus_per_block t.config
 
@@ -50,7 +51,7 @@ index_few : (h : ℕ) → domain_index h < 16
 index_few h = by_test (is_domain_id h) (λ e. let l = is_between 1 16 h e in rw e (omega (arith, l.least, l.most))) (λ e. rw e (omega arith))
 
 -- The tests are those of the clauses, with what the subject has of the configuration.
-sound_in : (t : Table) (n : ℕ) (s : Subject) → About t s
+sound_in : (t : Table) (n : ℕ) (s : Subject) → Fitting t s
     → is_sound_in s (block_at t n) (holder_record t (block_at t n))
     ≡ block_sound (adus_per_block t.config).0 t.config.period (holder_record t (block_at t n)) (block_at t n)
 sound_in t n s a = rw (a.same_period, a.same_capacity)
@@ -308,11 +309,9 @@ module _ {t : Table} {n last : ℕ} {m after : List ℕ} (k : Kept t n last m af
   }
 
   -- Its serial is compared as the clauses have it.
-  pub serial_tested : (bs : List Block) → n < length bs → ((j : ℕ) → j < n → get_or bs j clear_block ≡ block_at t j) → chain_passes bs after b last ≡ serial_new t n
+  pub serial_tested : (bs : List Block) → n < length bs → ((j : ℕ) → j < n → get_or bs j clear_block ≡ block_at t j) → chain_differs bs after b last ≡ serial_new t n
   serial_tested bs l same =
-      let most = last_most (same_key t (serial_key b)) n in
-      rw (ne_eqb last 257 (λ q. omega (arith, q, most, end_before, k.small)))
-      (ap (chain_differs bs after b) end_before ∙ chain_tells t n bs after (chained bs l same) k.not_free)
+      ap (chain_differs bs after b) end_before ∙ chain_tells t n bs after (chained bs l same) k.not_free
 
 -- Its place is tested as the clauses have it.
 place_tested : (t : Table) (n : ℕ) (m : List ℕ) → Marked t n m → place_free (counted (block_at t n) m) (place_of (block_at t n)) ≡ place_new t n
@@ -348,8 +347,8 @@ pub record Next (t : Table) (n : ℕ) (ok : Bool) (after : List ℕ) : Type 0 wh
   pub marks : ok ≡ true → Marked t (n + 1) after
 
 -- A Free block, ..
-free_next : (t : Table) (n : ℕ) (s : Subject) (bs : List Block) (last : ℕ) (m after : List ℕ) → n < 256 → Marked t n m → is_free (block_at t n) ≡ true
-    → (last ≡ cond (is_clear (block_at t n)) 0 257) × (after ≡ m) → Next t n (chain_passes bs after (block_at t n) last) after
+free_next : (t : Table) (n : ℕ) (s : Subject) (bs : List Block) (last : Option ℕ) (m after : List ℕ) → n < 256 → Marked t n m → is_free (block_at t n) ≡ true
+    → (last ≡ cond (is_clear (block_at t n)) (Some 0) None) × (after ≡ m) → Next t n (chain_passes bs after (block_at t n) last) after
 free_next t n s bs last m after small w e f =
     let g = free_tested t n e in
     let b = block_at t n in
@@ -364,12 +363,12 @@ free_next t n s bs last m after small w e f =
       marks = λ q. rw f.1 (free_marked t n m small e (sym passes ∙ q) w);
     }
   where
-    go : (c : Bool) → chain_passes bs after (block_at t n) (cond c 0 257) ≡ c
+    go : (c : Bool) → chain_passes bs after (block_at t n) (cond c (Some 0) None) ≡ c
     go true = chain_ends bs after (block_at t n)
     go false = refl
 
 -- .. one that a domain holds, ..
-held_next : (t : Table) (n : ℕ) (s : Subject) (bs : List Block) (last : ℕ) (m after : List ℕ) → About t s → n < 256 → n < length bs
+held_next : (t : Table) (n : ℕ) (s : Subject) (bs : List Block) (last : Option ℕ) (m after : List ℕ) → Fitting t s → n < 256 → n < length bs
     → ((j : ℕ) → j < n → get_or bs j clear_block ≡ block_at t j) → Marked t n m → is_free (block_at t n) ≡ false
     → HeldScanned s n (block_at t n) (holder_record t (block_at t n)) last m after → Next t n (chain_passes bs after (block_at t n) last) after
 held_next t n s bs last m after a small inside same w e scanned =
@@ -382,15 +381,16 @@ held_next t n s bs last m after a small inside same w e scanned =
     by_test (own && place_free (counted b m) (place_of b))
     (λ q.
     let q2 = both own (place_free (counted b m) (place_of b)) q in
-    let k : Kept t n last m after = record {
+    let linked = scanned.linked q in
+    let k : Kept t n linked.0 m after = record {
       small = small;
       not_free = e;
       id = held_id c p (holder_record t b) b e (sym is ∙ q2.0);
       before = w;
-      does = scanned.linked q;
+      does = linked.2;
     } in
     record {
-      tells = serial_tested k bs inside same ∙ sym (rw (sym is ∙ q2.0, sym place ∙ q2.1));
+      tells = ap (chain_passes bs after b) linked.1 ∙ serial_tested k bs inside same ∙ sym (rw (sym is ∙ q2.0, sym place ∙ q2.1));
       marks = λ _. held_marked k;
     })
     (λ q.
@@ -402,7 +402,7 @@ held_next t n s bs last m after a small inside same w e scanned =
     })
 
 -- .. and any.
-pub scanned_next : (t : Table) (n : ℕ) (s : Subject) (bs : List Block) (last : ℕ) (m after : List ℕ) → About t s → n < 256 → n < length bs
+pub scanned_next : (t : Table) (n : ℕ) (s : Subject) (bs : List Block) (last : Option ℕ) (m after : List ℕ) → Fitting t s → n < 256 → n < length bs
     → ((j : ℕ) → j < n → get_or bs j clear_block ≡ block_at t j) → Marked t n m
     → Scanned s n (block_at t n) (holder_record t (block_at t n)) last m after → Next t n (chain_passes bs after (block_at t n) last) after
 scanned_next t n s bs last m after a small inside same w scanned = by_test (is_free (block_at t n))

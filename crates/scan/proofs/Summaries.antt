@@ -1,13 +1,14 @@
 -- What is seen of a table is so: from what the scan of its blocks and the one of its domains have found.
 use Prim.Native.Nat.{ℕ, zero, suc, ◌+◌, ◌-◌, ◌<◌, ◌≤◌}
-use mathlib.Core.Bool.{Bool, true, false, true≢false, ◌&&◌, cond}
-use mathlib.Core.List.{List, []}
+use mathlib.Core.Bool.{Bool, true, true≢false, ◌&&◌}
+use mathlib.Core.List.{List}
 use mathlib.Core.Option.{Option, some}
 use mathlib.Core.Path.{◌≡◌, refl, sym, ap, ◌∙◌, subst}
 use native.Mathlib.Omega.{arith}
 use lib.Dec.{leb, ltb}
 use lib.ListN.{get_or, length, length-replicate, replicate}
 use lib.Seq.{get_or-take, length-take-le}
+use Rattle.std.specs.Prelude.{Option as Maybe, Some, None}
 use Rattle.geometry.proofs.Laws.Shape.{both, by_test, is_between, limits}
 use Rattle.geometry.specs.Shape.{within_limits}
 use Rattle.model.specs.declared.table.Table.{Table}
@@ -17,15 +18,16 @@ use Rattle.rules.specs.Blocks.{chosen_block, chosen_to}
 use Rattle.rules.specs.Drive.{block_at, clear_block, held_count, open_block, open_count, size}
 use Rattle.rules.specs.Soundness.{sound}
 use Rattle.scan.proofs.Choices.{chosen_found}
-use Rattle.scan.proofs.Passing.{Told, none_some, open_inside, open_told, passed_by, picked, some_same, walked_told}
+use Rattle.scan.proofs.Passing.{Told, none_some, open_inside, open_told, some_same, walked_told}
 use Rattle.scan.proofs.Seeing.{all_present}
-use Rattle.scan.proofs.Steps.{About, Marked}
+use Rattle.scan.proofs.Steps.{Fitting, Marked}
 use Rattle.scan.proofs.Soundness.{Counts, covers, outside_unsound, scan_sound, sound_blocks}
 use Rattle.scan.specs.Clauses.{blocks_sound, last_to}
-use Rattle.scan.specs.Free.{Chosen, no_candidate}
 use Rattle.scan.specs.Marks.{mark, mark_count, no_marks}
 use Rattle.scan.specs.Scan.{Walked}
-use Rattle.scan.specs.Summary.{Sees, SeesFound, Summarizes, SubjectOf, SummaryGathered, block_about, found_in, found_of, open_at, present}
+use Rattle.scan.specs.Summary.{Sees, SeesFound, Summarizes, SubjectOf, SummaryGathered, block_about, found_in, found_there, number_about, present, record_of}
+use Rattle.scan.specs.declared.scan.About.{About}
+use Rattle.scan.specs.declared.scan.About.TheVariants as about
 use Rattle.scan.specs.declared.scan.Subject.{Subject}
 use Rattle.scan.specs.declared.summary.Summary.{Summary}
 use Rattle.tables.specs.Changing.{present_blocks}
@@ -78,7 +80,7 @@ all_told : (t : Table) (s : Subject) (ok : Bool) (m : List ℕ) → SubjectOf t 
     → Walked s t.domains (present t) 0 (present t) ok no_marks m → Told t (size t) ok m
 all_told t s ok m a all e w =
     let q = all_there t e all in
-    let about : About t s = record { same_period = a.same_period; same_capacity = a.same_capacity e } in
+    let about : Fitting t s = record { same_period = a.same_period; same_capacity = a.same_capacity e } in
     let told = walked_told t s (present t) 0 (present t) ok no_marks m about (omega (arith, q.long, q.most)) (omega arith)
     (λ i l. ap (block_at t) (zero_first i) ∙ sym (q.records i (omega (arith, l, q.long))))
     (λ j l. q.records j (omega (arith, l, q.long))) (begun_marked t) (none_tested t) w in
@@ -98,7 +100,7 @@ module _ {t : Table} {s : Subject} {ms : List ℕ} {r : Summary} (a : SubjectOf 
   abbrev chosen : ℕ
   chosen = p.free.number
 
-  abbrev number : ℕ
+  abbrev number : Maybe ℕ
   number = block_about s chosen ms
 
   -- The tests of which the summary's is made.
@@ -149,39 +151,32 @@ module _ {t : Table} {s : Subject} {ms : List ℕ} {r : Summary} (a : SubjectOf 
   }
 
   -- The record of the block that the command is about, where it is one of the drive.
-  block_there : r.sound ≡ true → (n : ℕ) → number ≡ n → n < size t → r.block ≡ block_at t n
-  block_there y n is l = ap (λ (x : Summary). x.block) p.made ∙ ap (λ (i : ℕ). get_or (present t) i clear_block) is ∙ (there y).records n l
+  block_there : r.sound ≡ true → (n : ℕ) → number ≡ Some n → n < size t → r.block ≡ block_at t n
+  block_there y n is l = ap (λ (x : Summary). x.block) p.made ∙ ap (record_of (present t)) is ∙ (there y).records n l
 
   -- Its number: that of the placement's open block, ..
-  placed_is : s.placing ≡ true → number ≡ open_at ms s.domain s.number
-  placed_is e = picked s.placing (open_at ms s.domain s.number) (cond s.choosing chosen s.number) e
+  number_is : (x : About) → s.about ≡ x → number ≡ number_about x s.domain chosen ms
+  number_is x e = ap (λ (a : About). number_about a s.domain chosen ms) e
 
-  open_is : s.placing ≡ true → r.sound ≡ true → found_in (found_of (number)) ≡ open_block t s.domain s.number
-  open_is e y = ap (λ (n : ℕ). found_in (found_of n)) (placed_is e)
-      ∙ open_told t s.domain s.number ms (sym tested_sound ∙ y) (there y).most (sound_marked y).1
+  open_is : (n : ℕ) → s.about ≡ about.Placement n → r.sound ≡ true → found_in (found_there number) ≡ open_block t s.domain n
+  open_is n e y = ap (λ (o : Maybe ℕ). found_in (found_there o)) (number_is (about.Placement n) e)
+      ∙ open_told t s.domain n ms (sym tested_sound ∙ y) (there y).most (sound_marked y).1
 
-  -- .. that of the chosen one, ..
-  not_placed : s.placing ≡ false → number ≡ cond s.choosing chosen s.number
-  not_placed e = passed_by s.placing (open_at ms s.domain s.number) (cond s.choosing chosen s.number) e
-
-  chosen_is : s.placing ≡ false → s.choosing ≡ true → r.sound ≡ true → found_in (found_of (number)) ≡ chosen_block t
-  chosen_is e c y =
+  -- .. or that of the chosen one.
+  chosen_is : s.about ≡ about.Chosen → r.sound ≡ true → found_in (found_there number) ≡ chosen_block t
+  chosen_is e y =
       let q = there y in
-      ap (λ (n : ℕ). found_in (found_of n)) (not_placed e ∙ picked s.choosing chosen s.number c)
-      ∙ chosen_found t (present t) p.free (omega (arith, q.long, q.most)) (λ i l. sym (q.records i (omega (arith, l, q.long))))
-      (subst (λ (choosing : Bool). Chosen 0 (cond choosing (present t) []) no_candidate p.free) c p.chosen)
+      ap (λ (o : Maybe ℕ). found_in (found_there o)) (number_is about.Chosen e)
+      ∙ chosen_found t (present t) p.free (omega (arith, q.long, q.most)) (λ i l. sym (q.records i (omega (arith, l, q.long)))) (p.chosen e)
       ∙ ap (chosen_to t) q.long
-
-  -- .. or the one that is named.
-  named_is : s.placing ≡ false → s.choosing ≡ false → number ≡ s.number
-  named_is e c = not_placed e ∙ passed_by s.choosing chosen s.number c
 
 -- ---- All together
 
 -- A number that stands for a block is that block's.
-found_number : (f n : ℕ) → found_in (found_of f) ≡ some n → f ≡ n
-found_number f n e = by_test (ltb f 256)
-    (λ l. some_same f n (sym (rw l) ∙ e))
+found_number : (f : Maybe ℕ) (n : ℕ) → found_in (found_there f) ≡ some n → f ≡ Some n
+found_number None n e = absurd (none_some n e)
+found_number (Some f) n e = by_test (ltb f 256)
+    (λ l. ap (λ (i : ℕ). Some i) (some_same f n (sym (rw l) ∙ e)))
     (λ l. absurd (none_some n (sym (rw l) ∙ e)))
 
 -- The chosen block is one of the drive's.
@@ -191,7 +186,7 @@ chosen_inside t n e = (subst (Choice t (size t)) e (choice t (size t))).inside
 module _ {t : Table} {s : Subject} {ms : List ℕ} {r : Summary} (all : length t.blocks ≡ 256)
     (p : SummaryGathered t.config s (present t) t.domains no_marks ms r) where
   -- A block that is looked for, with its record.
-  found_as : SubjectOf t s → (o : Option ℕ) → (r.sound ≡ true → found_in (found_of (block_about s p.free.number ms)) ≡ o)
+  found_as : SubjectOf t s → (o : Option ℕ) → (r.sound ≡ true → found_in (found_there (block_about s p.free.number ms)) ≡ o)
       → ((n : ℕ) → o ≡ some n → n < size t) → SeesFound t o r
   found_as a o is inside = record {
     same_found = λ y. ap (λ (x : Summary). found_in x.found) p.made ∙ is y;
@@ -201,7 +196,7 @@ module _ {t : Table} {s : Subject} {ms : List ℕ} {r : Summary} (all : length t
   pub summary_as : Summarizes t s r
   summary_as = record {
     sees = λ a. sees_table a all p;
-    names = λ a e c. record { same_block = λ y l. block_there a all p y s.number (named_is a all p e c) l };
-    places = λ a e. found_as a (open_block t s.domain s.number) (open_is a all p e) (λ n. open_inside t s.domain s.number (size t) n);
-    chooses = λ a e c. found_as a (chosen_block t) (chosen_is a all p e c) (chosen_inside t);
+    names = λ a n e. record { same_block = λ y l. block_there a all p y n (number_is a all p (about.Block n) e) l };
+    places = λ a n e. found_as a (open_block t s.domain n) (open_is a all p n e) (λ i. open_inside t s.domain n (size t) i);
+    chooses = λ a e. found_as a (chosen_block t) (chosen_is a all p e) (chosen_inside t);
   }

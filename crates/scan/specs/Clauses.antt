@@ -1,5 +1,5 @@
 -- How the scan of the blocks and the one of the domains test the clauses of soundness.
-use Rattle.std.specs.Prelude.{ℕ, zero, suc, ◌+◌, ◌*◌, ◌/◌, ◌%◌, ◌-◌, max, Bool, not, ◌&&◌, cond, List, eqb, ltb, get_or}
+use Rattle.std.specs.Prelude.{ℕ, zero, suc, ◌+◌, ◌*◌, ◌/◌, ◌%◌, ◌-◌, max, Bool, not, ◌&&◌, cond, List, Option, Some, None, eqb, ltb, get_or}
 use Rattle.geometry.specs.Address.{is_domain_id}
 use Rattle.model.specs.declared.block.Block.{Block}
 use Rattle.model.specs.declared.block.State.{State}
@@ -21,6 +21,10 @@ holder_record t b = get_or t.domains (domain_index b.holder) clear_domain
 -- What two open blocks of one placement share; 256 for any other block, and where no sound table has such a holder or placement.
 abbrev pub place_for : ℕ → ℕ → ℕ
 place_for holder placement = cond (is_domain_id holder && ltb placement 16) (16 * (holder - 1) + placement) 256
+
+-- As the code has it, none for 256.
+abbrev pub some_place : ℕ → Option ℕ
+some_place place = cond (ltb place 256) (Some place) None
 
 abbrev pub place_in : State → ℕ → ℕ
 place_in Free holder = 256

@@ -1,5 +1,5 @@
 -- The scan of the blocks: what one step tests and counts.
-use Rattle.std.specs.Prelude.{ℕ, ◌+◌, Bool, true, false, ◌&&◌, ◌||◌, cond, List, [], ◌∷◌, ◌≡◌, eqb, leb, ltb, get_or, length, set}
+use Rattle.std.specs.Prelude.{ℕ, ◌+◌, Bool, true, false, ◌&&◌, ◌||◌, cond, List, [], ◌∷◌, ◌≡◌, eqb, leb, ltb, get_or, length, set, Option, Some, None}
 use Rattle.geometry.specs.Shape.{between}
 use Rattle.model.specs.declared.block.Block.{Block}
 use Rattle.model.specs.declared.block.Way.{Way}
@@ -61,26 +61,27 @@ pub record HeldTested (s : Subject) (n : ℕ) (b : Block) (r : Domain) (ok : Boo
 
 -- ---- The steps
 
--- A block that a domain holds: it is tested, and ends the chain of its key. 257 stands for one that is not sound.
-pub record HeldScanned (s : Subject) (n : ℕ) (b : Block) (r : Domain) (last : ℕ) (before after : List ℕ) : Type 0 where
-  pub refused : is_sound_in s b r && place_free (counted b before) (place_of b) ≡ false → last ≡ 257
+-- A block that a domain holds: it is tested, and ends the chain of its key, if it is sound.
+pub record HeldScanned (s : Subject) (n : ℕ) (b : Block) (r : Domain) (last : Option ℕ) (before after : List ℕ) : Type 0 where
+  pub refused : is_sound_in s b r && place_free (counted b before) (place_of b) ≡ false → last ≡ None
   pub linked : is_sound_in s b r && place_free (counted b before) (place_of b) ≡ true
-      → Linked n (key_of b.holder b.serial) last (place_set (place_of b) n (counted b before)) after
+      → (k : ℕ) × (last ≡ Some k) × Linked n (key_of b.holder b.serial) k (place_set (place_of b) n (counted b before)) after
 
-pub record Scanned (s : Subject) (n : ℕ) (b : Block) (r : Domain) (last : ℕ) (before after : List ℕ) : Type 0 where
+pub record Scanned (s : Subject) (n : ℕ) (b : Block) (r : Domain) (last : Option ℕ) (before after : List ℕ) : Type 0 where
   pub entries : length after ≡ length before
-  pub free : is_free b ≡ true → (last ≡ cond (is_clear b) 0 257) × (after ≡ before)
+  pub free : is_free b ≡ true → (last ≡ cond (is_clear b) (Some 0) None) × (after ≡ before)
   pub held : is_free b ≡ false → HeldScanned s n b r last before after
 
--- One block: where the scan gives another, the chain from it on has not its serial. 257 is no chain.
-abbrev pub chain_passes : List Block → List ℕ → Block → ℕ → Bool
-chain_passes bs marks b last = cond (eqb last 257) false (chain_differs bs marks b last)
+-- One block: where the scan gives another, the chain from it on has not its serial.
+abbrev pub chain_passes : List Block → List ℕ → Block → Option ℕ → Bool
+chain_passes bs marks b None = false
+chain_passes bs marks b (Some last) = chain_differs bs marks b last
 
 -- A step for each block of bs from number n on, among all the blocks, with the record of its holder among those of the domains; until one
 -- is not sound.
 unfoldable pub Walked : Subject → List Domain → List Block → ℕ → List Block → Bool → List ℕ → List ℕ → Type 0
 Walked s rs all n [] ok x y = (ok ≡ true) × (y ≡ x)
 Walked s rs all n (b ∷ bs) ok x y =
-    (last : ℕ) × (z : List ℕ) × Scanned s n b (get_or rs (domain_index b.holder) clear_domain) last x z
+    (last : Option ℕ) × (z : List ℕ) × Scanned s n b (get_or rs (domain_index b.holder) clear_domain) last x z
     × (chain_passes all z b last ≡ false → (ok ≡ false) × (y ≡ z))
     × (chain_passes all z b last ≡ true → Walked s rs all (n + 1) bs ok z y)

@@ -1,5 +1,6 @@
 -- What a command sees of a table.
 use Rattle.std.specs.Prelude.{ℕ, ◌+◌, ◌-◌, ◌<◌, max, Bool, true, false, ◌&&◌, cond, List, [], ◌≡◌, eqb, leb, ltb, get_or, length, take}
+use Rattle.std.specs.Prelude as std
 use Rattle.std.proofs.Math.Option.{Option, none, some}
 use Rattle.geometry.specs.Address.{is_domain_id}
 use Rattle.geometry.specs.Shape.{adus_per_block, within_limits}
@@ -10,10 +11,10 @@ use Rattle.scan.specs.Free.{Chosen, no_candidate}
 use Rattle.scan.specs.Listing.{byte_told, index_told, listed_from, number_told}
 use Rattle.scan.specs.Scan.{Walked}
 use Rattle.scan.specs.declared.free.Candidate.{Candidate}
+use Rattle.scan.specs.declared.scan.About.{About}
+use Rattle.scan.specs.declared.scan.About.TheVariants as about
 use Rattle.scan.specs.declared.scan.Subject.{Subject}
 use Rattle.scan.specs.declared.summary.Covering.{Covering}
-use Rattle.scan.specs.declared.summary.Found.{Found}
-use Rattle.scan.specs.declared.summary.Found.TheVariants.{Block as FoundBlock, Nothing}
 use Rattle.scan.specs.declared.summary.Summary.{Summary}
 use Rattle.model.specs.declared.block.Block.{Block}
 use Rattle.model.specs.declared.command.Listed.{Listed}
@@ -27,12 +28,16 @@ use Rattle.rules.specs.Soundness.{domain_sound, sound}
 use Rattle.tables.specs.Changing.{present_blocks}
 
 -- A block's number; 256 and above is none.
-abbrev pub found_of : ℕ → Found
-found_of n = cond (ltb n 256) (FoundBlock n) Nothing
+abbrev pub found_of : ℕ → std.Option ℕ
+found_of n = cond (ltb n 256) (std.Some n) std.None
 
-abbrev pub found_in : Found → Option ℕ
-found_in Nothing = none
-found_in (FoundBlock n) = some n
+abbrev pub found_there : std.Option ℕ → std.Option ℕ
+found_there std.None = std.None
+found_there (std.Some n) = found_of n
+
+abbrev pub found_in : std.Option ℕ → Option ℕ
+found_in std.None = none
+found_in (std.Some n) = some n
 
 -- Of a table and the domain d: whether it is sound; and where it is, the domain's counts and the coverage.
 pub record Sees (t : Table) (d : ℕ) (x : Summary) : Type 0 where
@@ -103,16 +108,30 @@ present t = take (present_blocks t.config) t.blocks
 abbrev pub count_of : List ℕ → ℕ → ℕ → ℕ
 count_of marks from d = cond (is_domain_id d) (mark marks (from + (d - 1))) 0
 
-abbrev pub open_at : List ℕ → ℕ → ℕ → ℕ
-open_at marks d p = let last = mark marks (32 + place_for d p) in cond (is_domain_id d && ltb p 16) (cond (eqb last 0) 256 (last - 1)) 256
+abbrev pub open_at : List ℕ → ℕ → ℕ → std.Option ℕ
+open_at marks d p =
+    let last = mark marks (32 + place_for d p) in
+    cond (is_domain_id d && ltb p 16) (cond (eqb last 0) std.None (std.Some (last - 1))) std.None
 
--- The number of the block that the subject is about, with this one chosen.
-abbrev pub block_about : Subject → ℕ → List ℕ → ℕ
-block_about s chosen marks = cond s.placing (open_at marks s.domain s.number) (cond s.choosing chosen s.number)
+-- The number of the block that the subject is about, with this one chosen, if it is about one.
+abbrev pub number_about : About → ℕ → ℕ → List ℕ → std.Option ℕ
+number_about (about.Placement p) d chosen marks = open_at marks d p
+number_about about.Chosen d chosen marks = std.Some chosen
+number_about (about.Block n) d chosen marks = std.Some n
+number_about about.Domain d chosen marks = std.None
+number_about (about.Listed which) d chosen marks = std.None
+
+abbrev pub block_about : Subject → ℕ → List ℕ → std.Option ℕ
+block_about s chosen marks = number_about s.about s.domain chosen marks
+
+-- Its record among these; a clear one where there is none.
+abbrev pub record_of : List Block → std.Option ℕ → Block
+record_of bs std.None = clear_block
+record_of bs (std.Some n) = get_or bs n clear_block
 
 -- The summary of what the scans found, the number of that block, the records of the domain and of the block, and what
 -- the marks have counted for the subject's domain.
-abbrev pub summary_of : Config → Subject → Bool → Covering → ℕ → Domain → Block → List ℕ → Summary
+abbrev pub summary_of : Config → Subject → Bool → Covering → std.Option ℕ → Domain → Block → List ℕ → Summary
 summary_of c s ok covering number domain block marks = record {
   sound = within_limits c && ok && covering.sound && leb covering.coverage c.blocks;
   config = c;
@@ -120,30 +139,30 @@ summary_of c s ok covering number domain block marks = record {
   held = count_of marks 0 s.domain;
   opened = count_of marks 16 s.domain;
   coverage = covering.coverage;
-  found = found_of number;
+  found = found_there number;
   block = block;
 }
 
 -- The summary was made of these blocks and domains, with marks that were so before and so behind the scans; a Free block
--- was looked for among all of them or among none, as the subject says.
+-- was looked for among all of them, if the subject is about it.
 pub record SummaryGathered (c : Config) (s : Subject) (bs : List Block) (rs : List Domain) (before marks : List ℕ) (r : Summary) : Type 0 where
   pub ok : Bool
   pub covering : Covering
   pub free : Candidate
   pub walked : Walked s rs bs 0 bs ok before marks
   pub covered : DomainsScanned rs c.blocks marks 16 covering
-  pub chosen : Chosen 0 (cond s.choosing bs []) no_candidate free
+  pub chosen : s.about ≡ about.Chosen → Chosen 0 bs no_candidate free
   pub made : let number = block_about s free.number marks in
-      r ≡ summary_of c s ok covering number (get_or rs (s.domain - 1) clear_domain) (get_or bs number clear_block) marks
+      r ≡ summary_of c s ok covering number (get_or rs (s.domain - 1) clear_domain) (record_of bs number) marks
 
 -- What is seen, of a subject that has its numbers from the table's configuration: the table and the subject's domain, and where the
 -- table is sound, the block that the subject is about.
 pub record Summarizes (t : Table) (s : Subject) (r : Summary) : Type 0 where
   pub sees : SubjectOf t s → Sees t s.domain r
-  pub names : SubjectOf t s → s.placing ≡ false → s.choosing ≡ false → SeesBlock t s.number r
-  pub places : SubjectOf t s → s.placing ≡ true → SeesPlacement t s.domain s.number r
-  pub chooses : SubjectOf t s → s.placing ≡ false → s.choosing ≡ true → SeesChoice t r
+  pub names : SubjectOf t s → (n : ℕ) → s.about ≡ about.Block n → SeesBlock t n r
+  pub places : SubjectOf t s → (p : ℕ) → s.about ≡ about.Placement p → SeesPlacement t s.domain p r
+  pub chooses : SubjectOf t s → s.about ≡ about.Chosen → SeesChoice t r
 
 -- The marks of a list, from any before it.
-abbrev pub ListGathered : Table → Subject → List ℕ → Type 0
-ListGathered t s marks = (before : List ℕ) × (length before ≡ mark_count) × (marks ≡ listed_from s 0 (present t) before)
+abbrev pub ListGathered : Table → Subject → Listed → List ℕ → Type 0
+ListGathered t s which marks = (before : List ℕ) × (length before ≡ mark_count) × (marks ≡ listed_from s which 0 (present t) before)

@@ -1,9 +1,9 @@
 // The clauses of soundness, of one block and of one domain, and what two blocks may not share.
-ghost use Rattle.std.specs.Prelude.{false, ◌&&◌, ◌≡◌, ◌<◌, ◌≤◌, max, eqb, leb, ltb};
+ghost use Rattle.std.specs.Prelude.{false, ◌&&◌, ◌≡◌, ◌<◌, eqb, leb, ltb};
 ghost use Rattle.rules.specs.Drive.{is_free};
 ghost use Rattle.geometry.specs.Shape.{between};
 ghost use Rattle.rules.specs.Soundness.{domain_sound, holder_exists, is_clear, serial_given, way_below};
-ghost use Rattle.scan.specs.Clauses.{domain_index, key_of, place_for};
+ghost use Rattle.scan.specs.Clauses.{domain_index, key_of, some_place, place_for};
 
 use geometry::Adus;
 use model::{Block, Domain, Way};
@@ -36,24 +36,18 @@ pub(crate) fn is_owned(holder: Domain, block: Block) -> bool
     requires { is_free block ≡ false }
     ensures { result ≡ serial_given holder block && holder_exists holder block }
 {
-    if block.holder < 1 {
-        return false;
-    }
-    if 16 < block.holder {
-        return false;
-    }
-    if holder.exists {
-        return (1 <= block.serial) & (block.serial <= holder.last);
-    }
-    false
+    (1 <= block.holder)
+        && (block.holder <= 16)
+        && holder.exists
+        && (1 <= block.serial)
+        && (block.serial <= holder.last)
 }
 
 // Is there nothing in the record but the P/E count?
 pub(crate) fn is_clear(block: Block) -> bool
     ensures { result ≡ is_clear block }
 {
-    let others = block.holder as u64 + block.left as u64 + block.serial as u64;
-    (block.written.0 == 0) & (others == 0)
+    (block.holder == 0) & (block.written.0 == 0) & (block.left == 0) & (block.serial == 0)
 }
 
 // Of an open block, how full it is and how long it stays open.
@@ -68,21 +62,18 @@ pub(crate) fn open_kept(capacity: Adus, period: u64, block: Block) -> bool
 pub(crate) fn closed_kept(capacity: Adus, block: Block) -> bool
     ensures { result ≡ leb block.written.0 capacity.0 && eqb block.left 0 }
 {
-    if capacity.0 < block.written.0 {
-        return false;
-    }
-    block.left == 0
+    (block.written.0 <= capacity.0) & (block.left == 0)
 }
 
-// The place of an open block of a domain's placement, which no two open blocks share; 256 where no sound table has such
+// The place of an open block of a domain's placement, which no two open blocks share; none where no sound table has such
 // a holder or placement.
-pub(crate) fn place_for(holder: u8, placement: u8) -> usize
-    ensures { (result ≡ place_for holder placement) × (result ≤ 256) }
+pub(crate) fn place_for(holder: u8, placement: u8) -> Option<usize>
+    ensures { result ≡ some_place (place_for holder placement) }
 {
     if (1 <= holder) & (holder <= 16) & (placement < 16) {
-        16 * (holder as usize - 1) + placement as usize
+        Some(16 * (usize::from(holder) - 1) + usize::from(placement))
     } else {
-        256
+        None
     }
 }
 
@@ -100,49 +91,30 @@ pub(crate) fn serial_key(holder: u8, serial: u32) -> usize
 fn limits_kept(opened: u64, domain: Domain) -> bool
     ensures { result ≡ between 1 16 domain.placements && between domain.placements 256 domain.limit && leb opened domain.limit }
 {
-    let placements = domain.placements as u32;
-    if placements < 1 {
-        return false;
-    }
-    if 16 < placements {
-        return false;
-    }
-    if domain.limit < placements {
-        return false;
-    }
-    if 256 < domain.limit {
-        return false;
-    }
-    opened <= domain.limit as u64
+    let placements = u32::from(domain.placements);
+    (1 <= placements)
+        && (placements <= 16)
+        && (placements <= domain.limit)
+        && (domain.limit <= 256)
+        && (opened <= u64::from(domain.limit))
 }
 
 // The clauses of a domain that holds and has open so many of so many blocks.
 pub(crate) fn domain_sound(blocks: u64, held: u64, opened: u64, domain: Domain) -> bool
     ensures { result ≡ domain_sound blocks held opened domain }
 {
-    let quota = domain.quota as u64;
+    let quota = u64::from(domain.quota);
     if domain.exists {
-        if quota < domain.reserved as u64 {
-            return false;
-        }
-        if blocks < quota {
-            return false;
-        }
-        if quota < held {
-            return false;
-        }
-        return limits_kept(opened, domain);
+        (u64::from(domain.reserved) <= quota)
+            & (quota <= blocks)
+            & (held <= quota)
+            & limits_kept(opened, domain)
+    } else {
+        let clear = (domain.reserved == 0)
+            & (quota == 0)
+            & (domain.placements == 0)
+            & (domain.limit == 0)
+            & (domain.last == 0);
+        (held == 0) & clear
     }
-    let clear = (domain.reserved == 0)
-        & (quota == 0)
-        & (domain.placements == 0)
-        & (domain.limit == 0)
-        & (domain.last == 0);
-    (held == 0) & clear
-}
-
-pub(crate) fn larger(a: u64, b: u64) -> u64
-    ensures { result ≡ max a b }
-{
-    if a < b { b } else { a }
 }

@@ -13,7 +13,7 @@ ghost use Rattle.tables.specs.Verdicts.{verdict_number};
 use crate::summary::Summary;
 use geometry::{is_domain_id, store_length};
 use model::{Command, Refusal};
-use tables::{Verdict, ask};
+use tables::ask;
 
 // What a command wants of the domain that it names: that it exists, or for Create that it does not yet. Pulse names
 // none.
@@ -66,7 +66,8 @@ fn kind_of(command: Command) -> Kind
 }
 
 // 3, of a command that uses the store.
-fn store_verdict(summary: Summary, uses: bool, entries: usize) -> Verdict
+#[tactic(auto, using(tables::proofs::Refusals::refusal_positive), unfolding(geometry::specs::Questions::first_no))]
+fn store_verdict(summary: Summary, uses: bool, entries: usize) -> Result<(), Refusal>
     requires { within_limits summary.config ≡ true }
     ensures { (t : Table) (k : Call) → summary.config ≡ t.config → entries ≡ k.lent.store → verdict_number result ≡ first_no (store_questions uses t k) }
 {
@@ -75,34 +76,37 @@ fn store_verdict(summary: Summary, uses: bool, entries: usize) -> Verdict
         let all = store_length(config);
         return ask(entries as u64 == all.0, Refusal::Store);
     }
-    Verdict::Pass
+    Ok(())
 }
 
 // 4 and 5: the domain's ID, and does it exist, or not yet?
-fn own_verdict(summary: Summary, own: Own) -> Verdict
+#[tactic(auto, using(tables::proofs::Refusals::refusal_positive), unfolding(geometry::specs::Questions::first_no))]
+fn own_verdict(summary: Summary, own: Own) -> Result<(), Refusal>
     ensures { (t : Table) → Sees t (domain_of (own_in own)) summary → verdict_number result ≡ first_no (domain_questions t (own_in own)) }
 {
     let d = summary.domain;
     match own {
         Own::Existing(id) => {
-            ask(is_domain_id(id), Refusal::DomainId).and(d.exists, Refusal::Existence)
+            ask(is_domain_id(id), Refusal::DomainId)?;
+            ask(d.exists, Refusal::Existence)
         }
         Own::Missing(id) => {
-            ask(is_domain_id(id), Refusal::DomainId).and(!d.exists, Refusal::Existence)
+            ask(is_domain_id(id), Refusal::DomainId)?;
+            ask(!d.exists, Refusal::Existence)
         }
-        Own::Nobody => Verdict::Pass,
+        Own::Nobody => Ok(()),
     }
 }
 
 // The first no of a command that is lent so many entries of the store.
-pub fn first_verdict(summary: Summary, command: Command, entries: usize) -> Verdict
+#[tactic(auto, using(tables::proofs::Refusals::refusal_positive), unfolding(geometry::specs::Questions::first_no))]
+pub fn first_verdict(summary: Summary, command: Command, entries: usize) -> Result<(), Refusal>
     requires { Seen (domain_of (profile command).own) summary }
     ensures { (t : Table) → Sees t (domain_of (profile command).own) summary → verdict_number result ≡ first_no (first_asked t command entries) }
 {
-    if !summary.sound {
-        return Verdict::No(Refusal::Unsound);
-    }
+    ask(summary.sound, Refusal::Unsound)?;
     let kind = kind_of(command);
     let own = kind.own;
-    store_verdict(summary, kind.store, entries).then(own_verdict(summary, own))
+    store_verdict(summary, kind.store, entries)?;
+    own_verdict(summary, own)
 }

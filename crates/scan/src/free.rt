@@ -6,7 +6,7 @@ use model::Block;
 use tables::is_free;
 
 // A Free block that may be opened next, by its number and its erases; with 2^32 of them, more than any block has, it is
-// none.
+// none. It is no Option: an enum, as was tried for the recorder's oldest block, is copied through memory for each block.
 #[derive(Clone, Copy)]
 pub struct Candidate {
     pub number: u64,
@@ -26,12 +26,10 @@ pub fn no_candidate() -> Candidate
 pub fn choose(best: Candidate, n: u64, block: Block) -> Candidate
     ensures { (result ≡ chosen_next best n block) × (block.erases < 4294967296) }
 {
-    let count = block.erases as u64;
-    if is_free(block) & (count < best.erases) {
-        return Candidate {
-            number: n,
-            erases: count,
-        };
+    let erases = u64::from(block.erases);
+    if is_free(block) & (erases < best.erases) {
+        Candidate { number: n, erases }
+    } else {
+        best
     }
-    best
 }

@@ -5,7 +5,6 @@ ghost use Rattle.model.specs.declared.table.Table.{Table};
 ghost use Rattle.rules.specs.Domains.{covered_with};
 ghost use Rattle.scan.specs.Summary.{Seen, Sees};
 
-use crate::clauses::larger;
 use crate::summary::Summary;
 use tables::reserved_by;
 
@@ -17,7 +16,7 @@ pub fn covered_with(summary: Summary, domain: u64, reserved: u64, blocks: u64) -
     ensures { (t : Table) → Sees t domain summary → result ≡ covered_with t domain reserved blocks }
 {
     let d = summary.domain;
-    let before = larger(reserved_by(d), summary.held);
-    let after = larger(reserved, blocks);
+    let before = reserved_by(d).max(summary.held);
+    let after = reserved.max(blocks);
     summary.coverage + after <= summary.config.blocks + before
 }

@@ -1,25 +1,20 @@
 // What a command sees of a table: all that its questions ask of it and its change needs.
-ghost use Rattle.std.specs.Prelude.{cond, ◌≡◌, ◌+◌, ◌-◌, ◌<◌, ◌≤◌, length};
-ghost use Rattle.geometry.specs.Address.{is_domain_id};
-ghost use Rattle.scan.specs.Marks.{mark, mark_count};
-ghost use Rattle.scan.specs.Summary.{block_about, covering_with, found_of, open_at, summary_of};
+ghost use Rattle.std.specs.Prelude.{◌≡◌, ◌+◌, ◌-◌, ◌<◌, ◌≤◌};
+ghost use Rattle.scan.specs.Summary.{block_about, count_of, covering_with, found_there, summary_of};
 
-use crate::clauses::{domain_sound, larger};
-use crate::marks::{OPENED, PLACES, number};
-use crate::scan::Subject;
+use crate::clauses::domain_sound;
+use crate::marks::{Marks, OPENED};
+use crate::scan::{About, Subject};
 use geometry::{Config, within_limits};
 use model::{Block, Domain};
 
-// A block that is looked for.
-#[derive(Clone, Copy)]
-pub enum Found {
-    Nothing,
-    Block(u64),
-}
-
+// That some table is seen so (`Seen`) and that the first questions are answered yes (`FirstPassed`) is asked by the
+// function of each command, and not kept in the summary: both speak of that command's domain and arguments too.
 #[derive(Clone, Copy)]
 pub struct Summary {
+    // beside the counts and no Option round them: they are made of the same marks, without a branch
     pub sound: bool,
+    // any, as the table has it, and so no `Bounded`
     pub config: Config,
     // the record of the command's domain, and the blocks that it holds and has open
     pub domain: Domain,
@@ -27,14 +22,15 @@ pub struct Summary {
     pub opened: u64,
     // over all domains, the sum of the larger of reserved and held
     pub coverage: u64,
-    // the block that the command is about, and its record
-    pub found: Found,
+    // the block that the command is about, if it is one that is looked for, and its record
+    pub found: Option<u64>,
     pub block: Block,
 }
 
 // What the scan of the domains gives: whether their clauses hold, and the coverage.
 #[derive(Clone, Copy)]
 pub struct Covering {
+    // beside the sum, which goes on to the last domain in any case
     pub sound: bool,
     pub coverage: u64,
 }
@@ -45,17 +41,16 @@ pub fn scan_domain(
     n: usize,
     domain: Domain,
     blocks: u64,
-    marks: &[u16],
+    marks: &Marks,
 ) -> Covering
-    requires n_bound { (n < 16) × (length marks.now ≡ mark_count) }
+    requires n_bound { n < 16 }
     requires coverage_bound { covering.coverage ≤ 68719476736 }
-    ensures { (result ≡ covering_with covering n domain blocks marks.now) × (result.coverage ≤ covering.coverage + 4294967296) }
+    ensures { (result ≡ covering_with covering n domain blocks marks.now.row) × (result.coverage ≤ covering.coverage + 4294967296) }
 {
-    let held = number(marks[n]) as u64;
-    let opened = number(marks[OPENED + n]) as u64;
+    let held = marks.count(n);
     Covering {
-        sound: covering.sound & domain_sound(blocks, held, opened, domain),
-        coverage: covering.coverage + larger(domain.reserved as u64, held),
+        sound: covering.sound & domain_sound(blocks, held, marks.count(OPENED + n), domain),
+        coverage: covering.coverage + held.max(u64::from(domain.reserved)),
     }
 }
 
@@ -63,62 +58,38 @@ pub fn scan_domain(
 pub fn place(subject: Subject) -> u64
     ensures { result ≡ subject.domain - 1 }
 {
-    let domain = subject.domain;
-    if domain == 0 { 0 } else { domain - 1 }
+    subject.domain.saturating_sub(1)
 }
 
 // A domain's entry among the marks from a place on; 0 for what is no domain's ID.
-fn count_of(marks: &[u16], from: usize, domain: u64) -> u64
-    requires { (from ≤ 16) × (length marks.now ≡ mark_count) }
-    ensures { result ≡ cond (is_domain_id domain) (mark marks.now (from + (domain - 1))) 0 }
+fn count_of(marks: &Marks, from: usize, domain: u64) -> u64
+    requires { from ≤ 16 }
+    ensures { result ≡ count_of marks.now.row from domain }
 {
-    if 1 <= domain {
-        if domain <= 16 {
-            let n = (domain - 1) as usize;
-            return number(marks[from + n]) as u64;
-        }
+    if (1 <= domain) & (domain <= 16) {
+        marks.count(from + (domain - 1) as usize)
+    } else {
+        0
     }
-    0
-}
-
-// The open block of a domain's placement; 256 if it has none.
-fn open_at(marks: &[u16], domain: u64, placement: u64) -> u64
-    requires { length marks.now ≡ mark_count }
-    ensures { result ≡ open_at marks.now domain placement }
-{
-    if (1 <= domain) & (domain <= 16) & (placement < 16) {
-        let place = (16 * (domain - 1) + placement) as usize;
-        let last = number(marks[PLACES + place]) as u64;
-        if last == 0 {
-            return 256;
-        }
-        return last - 1;
-    }
-    256
 }
 
 // The block that the command is about: its placement's open one, the chosen one, or the one that it names.
-pub fn block_about(subject: Subject, chosen: u64, marks: &[u16]) -> u64
-    requires { length marks.now ≡ mark_count }
-    ensures { result ≡ block_about subject chosen marks.now }
+pub fn block_about(subject: Subject, chosen: u64, marks: &Marks) -> Option<u64>
+    ensures { result ≡ block_about subject chosen marks.now.row }
 {
-    if subject.placing {
-        return open_at(marks, subject.domain, subject.number);
+    match subject.about {
+        About::Placement(placement) => marks.open_at(subject.domain, placement),
+        About::Chosen => Some(chosen),
+        About::Block(number) => Some(number),
+        About::Domain | About::Listed(_) => None,
     }
-    if subject.choosing {
-        return chosen;
-    }
-    subject.number
 }
 
-fn found_in(number: u64) -> Found
-    ensures { result ≡ found_of number }
+// A block's number; 256 and above is none.
+fn found_there(number: Option<u64>) -> Option<u64>
+    ensures { result ≡ found_there number }
 {
-    if number < 256 {
-        Found::Block(number)
-    } else {
-        Found::Nothing
-    }
+    number.filter(|n| *n < 256)
 }
 
 // What a command sees, from what was read of a table: what the scans found, the number of the block that the command is
@@ -128,13 +99,12 @@ pub fn summary_of(
     subject: Subject,
     sound: bool,
     covering: Covering,
-    number: u64,
+    number: Option<u64>,
     domain: Domain,
     block: Block,
-    marks: &[u16],
+    marks: &Marks,
 ) -> Summary
-    requires { length marks.now ≡ mark_count }
-    ensures { result ≡ summary_of config subject sound covering number domain block marks.now }
+    ensures { result ≡ summary_of config subject sound covering number domain block marks.now.row }
 {
     Summary {
         sound: within_limits(config)
@@ -146,7 +116,7 @@ pub fn summary_of(
         held: count_of(marks, 0, subject.domain),
         opened: count_of(marks, OPENED, subject.domain),
         coverage: covering.coverage,
-        found: found_in(number),
+        found: found_there(number),
         block,
     }
 }

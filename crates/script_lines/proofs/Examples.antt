@@ -4,14 +4,14 @@ use mathlib.Core.Path.{◌≡◌, refl}
 use Rattle.geometry.specs.Shape.{adus, planes}
 use Rattle.model.specs.declared.command.Command.TheVariants as command
 use Rattle.model.specs.declared.command.Listed.TheVariants as listed
-use Rattle.script_lines.specs.Arguments.{read_on, value_of}
+use Rattle.script_lines.specs.Arguments.{read_on}
 use Rattle.script_lines.specs.Keywords.{keyword_of, looked_up}
-use Rattle.script_lines.specs.Lines.{line_of, meaning, text_line}
-use Rattle.script_lines.specs.Numbers.{continued, number_in, number_of}
-use Rattle.script_lines.specs.Words.{ascii, before, same_text}
+use Rattle.script_lines.specs.Lines.{line_of}
+use Rattle.script_lines.specs.Numbers.{continued, number_in}
+use Rattle.script_lines.specs.Words.{ascii}
 use Rattle.script_lines.specs.declared.keywords.Expected.TheVariants as expected
-use Rattle.script_lines.specs.declared.lines.Buffer.TheVariants as buffer
-use Rattle.script_lines.specs.declared.lines.Length.TheVariants as length
+use Rattle.script_lines.specs.declared.arguments.Buffer.TheVariants as buffer
+use Rattle.script_lines.specs.declared.arguments.Length.TheVariants as length
 use Rattle.script_lines.specs.declared.lines.Line.TheVariants.{Append, Latest, Lend, Nothing, Serve, Show, Take, Wrong}
 
 asked :
@@ -27,7 +27,7 @@ asked :
     × (line_of (ascii "append 3 0xffffffffffffffff") ≡ Append 3 18446744073709551615)
     × (line_of (ascii "latest 3 16") ≡ Latest 3 (adus 16))
     × (line_of (ascii "  # create 1 300 200 2 1") ≡ Nothing)
-unfolding read_on value_of keyword_of looked_up line_of meaning text_line continued number_in number_of before same_text
+unfolding read_on keyword_of looked_up continued number_in
 asked = (refl, refl, refl, refl, refl, refl, refl, refl, refl, refl, refl, refl)
 
 wrong :
@@ -39,5 +39,5 @@ wrong :
     × (line_of (ascii "delete 1 2") ≡ Wrong expected.LineEnd 9)
     × (line_of (ascii "append 3") ≡ Wrong expected.Number 8)
     × (line_of (ascii "latest 3 16 1") ≡ Wrong expected.LineEnd 12)
-unfolding read_on value_of keyword_of looked_up line_of meaning text_line continued number_in number_of before same_text
+unfolding read_on keyword_of looked_up continued number_in
 wrong = (refl, refl, refl, refl, refl, refl, refl, refl)

@@ -1,4 +1,4 @@
--- The laws of scanning, of digits, of looking up a keyword and of reading arguments, and the written language on examples.
+-- The laws of scanning, of digits, of looking up a keyword and of reading arguments, and the language on examples.
 mod Scanning
 mod Digits
 mod Looking

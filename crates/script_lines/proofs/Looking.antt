@@ -1,41 +1,47 @@
--- A word is looked up under one name after the other.
-use Prim.Native.Nat.{ℕ}
-use mathlib.Core.Bool.{cond}
-use mathlib.Core.List.{List, [], ◌∷◌}
-use mathlib.Core.Path.{◌≡◌, refl, ap, ◌∙◌}
-use Rattle.script_lines.specs.Keywords.{Entry, entries, keyword_of, looked_up}
-use Rattle.script_lines.specs.Words.{same_text}
-use Rattle.script_lines.specs.declared.keywords.Found.{Found}
-use Rattle.script_lines.specs.declared.keywords.Found.TheVariants.{Is, Nothing}
+-- A word is looked up in the table of names.
+use Rattle.std.proofs.Common.{◌≡◌, ℕ, Bool, true, false, cond, List, [], ◌∷◌, Option, Some, None, refl, ap, ◌∙◌, Bor}
+use Rattle.std.specs.List.{find}
+use Rattle.std.specs.Option.{option_map}
+use Rattle.std.specs.Str.{bytes_eq}
+use Rattle.script_lines.specs.Keywords.{Entry, entries, entry, keyword_of, looked_up}
+use Rattle.script_lines.specs.declared.keywords.Keyword.{Keyword}
 
--- What a word is under these names.
-pub record Looked (text : List ℕ) (es : List Entry) : Type 0 where
-  pub found : Found
-  pub same : found ≡ looked_up es text
+-- A row of the table: a name, and the keyword behind it.
+abbrev pub Row : Type 0
+Row = Bor (List ℕ) × Keyword
 
--- Under no name there is nothing.
-pub nothing_found : (text : List ℕ) → Nothing ≡ looked_up [] text
-unfolding looked_up
-nothing_found text = refl
+abbrev pub is_named : List ℕ → Row → Bool
+is_named text row = bytes_eq text row.0.now
 
-abbrev pub no_name : (text : List ℕ) → Looked text []
-no_name text = record { found = Nothing; same = nothing_found text }
+abbrev pub entries_of : List Row → List Entry
+entries_of [] = []
+entries_of (row ∷ rows) = entry row.0.now row.1 ∷ entries_of rows
 
--- One name more goes before the others.
-pub first_name : (text : List ℕ) (e : Entry) (es : List Entry) (found others : Found)
-    → found ≡ cond (same_text text e.name) (Is e.keyword) others
-    → others ≡ looked_up es text
-    → found ≡ looked_up (e ∷ es) text
-unfolding looked_up
-first_name text e es found others made rest = made ∙ ap (λ (f : Found). cond (same_text text e.name) (Is e.keyword) f) rest
+module _ (text : List ℕ) where
+  -- The first row with the word's name has its keyword.
+  found_in : (rows : List Row)
+      → option_map (λ row. row.1) (find (is_named text) rows) ≡ looked_up (entries_of rows) text
+  unfolding looked_up
+  found_in [] = refl
+  found_in (row ∷ rows) =
+      elim (is_named text row) as (λ same. option_map (λ row. row.1) (cond same (Some row) (find (is_named text) rows))
+      ≡ cond same (Some row.1) (looked_up (entries_of rows) text)) [
+        | true ↦ refl
+        | false ↦ found_in rows
+      ]
 
-infixl 40 ◌then◌
-abbrev pub ◌then◌ : {text : List ℕ} {e : Entry} {es : List Entry} {found : Found} (l : Looked text es)
-    → found ≡ cond (same_text text e.name) (Is e.keyword) l.found
-    → Looked text (e ∷ es)
-◌then◌ {text} {e} {es} {found} l made = record { found = found; same = first_name text e es found l.found made l.same }
+  -- In the table of all names it is the keyword.
+  found_in_all : (rows : List Row) → entries_of rows ≡ entries
+      → option_map (λ row. row.1) (find (is_named text) rows) ≡ keyword_of text
+  unfolding keyword_of
+  found_in_all rows all = found_in rows ∙ ap (λ es. looked_up es text) all
 
--- Under all of them it is the keyword.
-pub all_names : {text : List ℕ} (l : Looked text entries) → l.found ≡ keyword_of text
-unfolding keyword_of
-all_names l = l.same
+  module _ (rows : List Row) (all : entries_of rows ≡ entries) (found : Option (Bor Row))
+      (looked : option_map (λ x. x.now) found ≡ find (is_named text) rows) where
+    -- So the row that is found has it ..
+    pub named : (row : Bor Row) → found ≡ Some row → Some row.now.1 ≡ keyword_of text
+    named row e = ap (option_map (λ (row : Row). row.1)) (rw e at looked) ∙ found_in_all rows all
+
+    -- .. and a word that is not found is none.
+    pub not_named : found ≡ None → None ≡ keyword_of text
+    not_named e = ap (option_map (λ (row : Row). row.1)) (rw e at looked) ∙ found_in_all rows all

@@ -1,10 +1,9 @@
 -- The words that begin a line, and what is to follow each.
-use Rattle.std.specs.Prelude.{ℕ, cond, List, [], ◌∷◌}
-use Rattle.script_lines.specs.Words.{ascii, same_text}
+use Rattle.std.specs.Prelude.{ℕ, cond, List, [], ◌∷◌, Option, Some, None}
+use Rattle.std.specs.Str.{bytes_eq}
+use Rattle.script_lines.specs.Words.{ascii}
 use Rattle.script_lines.specs.declared.keywords.Expected.{Expected}
 use Rattle.script_lines.specs.declared.keywords.Expected.TheVariants.{Block, Buffer, Length, Listed, Number, Way}
-use Rattle.script_lines.specs.declared.keywords.Found.{Found}
-use Rattle.script_lines.specs.declared.keywords.Found.TheVariants.{Is, Nothing}
 use Rattle.script_lines.specs.declared.keywords.Keyword.{Keyword}
 use Rattle.script_lines.specs.declared.keywords.Keyword.TheVariants.{Append, Change, Close, Create, Delete, Erase}
 use Rattle.script_lines.specs.declared.keywords.Keyword.TheVariants.{Free, Latest, Lend, List as Listing, Make, Page}
@@ -41,12 +40,12 @@ entries =
     ∷ []
 
 -- The first keyword with that name.
-unfoldable pub looked_up : List Entry → List ℕ → Found
-looked_up [] text = Nothing
-looked_up (e ∷ es) text = cond (same_text text e.name) (Is e.keyword) (looked_up es text)
+unfoldable pub looked_up : List Entry → List ℕ → Option Keyword
+looked_up [] text = None
+looked_up (e ∷ es) text = cond (bytes_eq text e.name) (Some e.keyword) (looked_up es text)
 
 -- The keyword that a word is.
-unfoldable pub keyword_of : List ℕ → Found
+unfoldable pub keyword_of : List ℕ → Option Keyword
 keyword_of text = looked_up entries text
 
 -- What follows a keyword, in this order, and then nothing more.

@@ -1,11 +1,6 @@
 // The words that begin a line, and what is to follow each.
-ghost use Rattle.std.specs.Prelude.{cond, ◌≡◌, ◌<◌, ◌≤◌, get_or, length};
+ghost use Rattle.std.specs.Prelude.{◌≡◌, ◌≤◌, length};
 ghost use Rattle.script_lines.specs.Keywords.{form, keyword_of};
-ghost use Rattle.script_lines.specs.Words.{same_text};
-ghost use Rattle.script_lines.specs.declared.keywords.Expected.TheVariants.{LineEnd};
-ghost use Rattle.script_lines.specs.declared.keywords.Found.TheVariants.{Is};
-
-use crate::words::same_text;
 
 #[derive(Clone, Copy)]
 pub enum Keyword {
@@ -29,13 +24,6 @@ pub enum Keyword {
     Latest,
 }
 
-// The keyword that a word is, if it is one.
-#[derive(Clone, Copy)]
-pub enum Found {
-    Is(Keyword),
-    Nothing,
-}
-
 // What may stand at a place of a line.
 #[derive(Clone, Copy)]
 pub enum Expected {
@@ -54,95 +42,67 @@ pub enum Expected {
     LineEnd,
 }
 
-// A keyword, where the word is its name.
-fn named_keyword(text: &[u8], name: &[u8], keyword: Keyword, otherwise: Found) -> Found
-    ensures { result ≡ cond (same_text text.now name.now) (Is keyword) otherwise }
-{
-    if same_text(text, name) {
-        Found::Is(keyword)
-    } else {
-        otherwise
-    }
-}
+// Each keyword behind its name.
+const NAMES: [(&[u8], Keyword); 18] = [
+    (b"start", Keyword::Start),
+    (b"create", Keyword::Create),
+    (b"change", Keyword::Change),
+    (b"delete", Keyword::Delete),
+    (b"erase", Keyword::Erase),
+    (b"close", Keyword::Close),
+    (b"free", Keyword::Free),
+    (b"write", Keyword::Write),
+    (b"read", Keyword::Read),
+    (b"page", Keyword::Page),
+    (b"list", Keyword::List),
+    (b"pulse", Keyword::Pulse),
+    (b"make", Keyword::Make),
+    (b"take", Keyword::Take),
+    (b"lend", Keyword::Lend),
+    (b"show", Keyword::Show),
+    (b"append", Keyword::Append),
+    (b"latest", Keyword::Latest),
+];
 
-// No two names are the same, so their order is of no matter.
-pub fn keyword_of(text: &[u8]) -> Found
+// The keyword that a word is, if it is one.
+pub fn keyword_of(text: &[u8]) -> Option<Keyword>
     ensures { result ≡ keyword_of text.now }
 {
-    let found = named_keyword(text, b"latest", Keyword::Latest, Found::Nothing);
-    let found = named_keyword(text, b"append", Keyword::Append, found);
-    let found = named_keyword(text, b"show", Keyword::Show, found);
-    let found = named_keyword(text, b"lend", Keyword::Lend, found);
-    let found = named_keyword(text, b"take", Keyword::Take, found);
-    let found = named_keyword(text, b"make", Keyword::Make, found);
-    let found = named_keyword(text, b"pulse", Keyword::Pulse, found);
-    let found = named_keyword(text, b"list", Keyword::List, found);
-    let found = named_keyword(text, b"page", Keyword::Page, found);
-    let found = named_keyword(text, b"read", Keyword::Read, found);
-    let found = named_keyword(text, b"write", Keyword::Write, found);
-    let found = named_keyword(text, b"free", Keyword::Free, found);
-    let found = named_keyword(text, b"close", Keyword::Close, found);
-    let found = named_keyword(text, b"erase", Keyword::Erase, found);
-    let found = named_keyword(text, b"delete", Keyword::Delete, found);
-    let found = named_keyword(text, b"change", Keyword::Change, found);
-    let found = named_keyword(text, b"create", Keyword::Create, found);
-    named_keyword(text, b"start", Keyword::Start, found)
+    let entry = NAMES.iter().find(|entry| text == entry.0)?;
+    Some(entry.1)
 }
 
-pub fn argument_count(keyword: Keyword) -> usize
-    ensures value { result ≡ length (form keyword) }
-    ensures upper_bound { result ≤ 7 }
-{
-    match keyword {
-        Keyword::Start => 7,
-        Keyword::Create => 5,
-        Keyword::Change => 3,
-        Keyword::Delete => 1,
-        Keyword::Erase => 2,
-        Keyword::Close => 2,
-        Keyword::Free => 2,
-        Keyword::Write => 5,
-        Keyword::Read => 4,
-        Keyword::Page => 2,
-        Keyword::List => 2,
-        Keyword::Pulse => 1,
-        Keyword::Make => 6,
-        Keyword::Take => 1,
-        Keyword::Lend => 2,
-        Keyword::Show => 0,
-        Keyword::Append => 2,
-        Keyword::Latest => 2,
-    }
-}
-
-// What argument i is to be: a number, but for the second of four commands, and for those of `lend`.
-pub fn argument_at(keyword: Keyword, i: usize) -> Expected
-    requires { i < length (form keyword) }
-    ensures { result ≡ get_or (form keyword) i LineEnd }
-{
-    let first = i == 0;
-    let second = i == 1;
-    match keyword {
-        Keyword::Erase => if second {
-            Expected::Block
-        } else {
-            Expected::Number
-        },
-        Keyword::Write => if second {
-            Expected::Way
-        } else {
-            Expected::Number
-        },
-        Keyword::List => if second {
-            Expected::Listed
-        } else {
-            Expected::Number
-        },
-        Keyword::Lend => if first {
-            Expected::Buffer
-        } else {
-            Expected::Length
-        },
-        _ => Expected::Number,
+impl Keyword {
+    // What follows it, in this order, and then nothing more.
+    pub fn form(self) -> &'static [Expected]
+        ensures value { result.now ≡ form self }
+        ensures upper_bound { length result.now ≤ 7 }
+    {
+        match self {
+            Keyword::Start => &[Expected::Number; 7],
+            Keyword::Create => &[Expected::Number; 5],
+            Keyword::Change => &[Expected::Number; 3],
+            Keyword::Delete => &[Expected::Number],
+            Keyword::Erase => &[Expected::Number, Expected::Block],
+            Keyword::Close => &[Expected::Number; 2],
+            Keyword::Free => &[Expected::Number; 2],
+            Keyword::Write => &[
+                Expected::Number,
+                Expected::Way,
+                Expected::Number,
+                Expected::Number,
+                Expected::Number,
+            ],
+            Keyword::Read => &[Expected::Number; 4],
+            Keyword::Page => &[Expected::Number; 2],
+            Keyword::List => &[Expected::Number, Expected::Listed],
+            Keyword::Pulse => &[Expected::Number],
+            Keyword::Make => &[Expected::Number; 6],
+            Keyword::Take => &[Expected::Number],
+            Keyword::Lend => &[Expected::Buffer, Expected::Length],
+            Keyword::Show => &[],
+            Keyword::Append => &[Expected::Number; 2],
+            Keyword::Latest => &[Expected::Number; 2],
+        }
     }
 }

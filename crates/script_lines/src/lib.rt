@@ -7,6 +7,7 @@ mod lines;
 mod numbers;
 mod words;
 
+pub use arguments::{Buffer, Length};
 pub use keywords::Expected;
-pub use lines::{Buffer, Length, Line, parse};
+pub use lines::{Line, parse};
 pub use words::line_end;

@@ -1,7 +1,6 @@
-// The lines of a text and the words of a line: where one begins and ends, and whether a word is a
-// given one.
+// The lines of a text and the words of a line: where one begins and ends.
 ghost use Rattle.std.specs.Prelude.{◌≡◌, ◌≤◌, min, length};
-ghost use Rattle.script_lines.specs.Words.{first, is_blank, is_mark, line_end, same_text};
+ghost use Rattle.script_lines.specs.Words.{first, is_blank, is_mark, line_end};
 
 // What a line is searched for.
 #[derive(Clone, Copy)]
@@ -19,7 +18,7 @@ pub enum Mark {
 fn is_blank(b: u8) -> bool
     ensures { result ≡ is_blank b }
 {
-    (b == b' ') | (b == b'\t') | (b == b'\r')
+    matches!(b, b' ' | b'\t' | b'\r')
 }
 
 fn is_mark(mark: Mark, b: u8) -> bool
@@ -39,14 +38,11 @@ pub fn first_mark(line: &[u8], at: usize, mark: Mark) -> usize
     ensures value { result ≡ first mark line.now at }
     ensures in_range { (at ≤ result) × (result ≤ length line.now) }
 {
-    let mut i = at;
-    while i < line.len() {
-        if is_mark(mark, line[i]) {
-            return i;
-        }
-        i += 1;
+    let rest = &line[at..];
+    match rest.iter().position(|b| is_mark(mark, *b)) {
+        Some(passed) => at + passed,
+        None => line.len(),
     }
-    i
 }
 
 // Where the line of a text that begins at an index ends.
@@ -58,18 +54,4 @@ pub fn line_end(text: &[u8], from: usize) -> usize
         return text.len();
     }
     first_mark(text, from, Mark::Newline)
-}
-
-pub fn same_text(text: &[u8], name: &[u8]) -> bool
-    ensures { result ≡ same_text text.now name.now }
-{
-    if text.len() != name.len() {
-        return false;
-    }
-    for i in 0..text.len() {
-        if text[i] != name[i] {
-            return false;
-        }
-    }
-    true
 }

@@ -1,45 +1,16 @@
 // The lines of `answer_lines`, written.
-ghost use Rattle.std.specs.Prelude.{◌≡◌, length};
-
-use crate::errors::say;
-use answer_lines::{print_address, print_answer, print_outcome, print_samples};
-use geometry::Adus;
-use model::{Answer, Command};
+use crate::output::say_bytes;
 
 // Room for the longest line that is printed: 4,096 words.
-fn line_memory() -> [u8; 73728]
-    ensures { 73728 ≡ length result }
+const ROOM: usize = 73728;
+
+// Writes the line that a function puts at the front of a buffer; the function answers its length.
+pub fn say_line<R: Print, F: FnOnce(&mut [u8]) -> usize>(rt: &R, print: F)
+    requires { F.IsAlwaysCallable print }
 {
-    [0; 73728]
-}
-
-// The first bytes of a buffer are a line, with its newline.
-fn print(out: &[u8], length: usize) {
-    if length <= out.len() {
-        say(&out[..length]);
+    let mut out = [0; ROOM];
+    let length = print(&mut out);
+    if let Some(line) = out.get(..length) {
+        say_bytes(rt, line);
     }
-}
-
-pub fn say_outcome(answer: Answer) {
-    let mut out = line_memory();
-    let n = print_outcome(answer, &mut out);
-    print(&out, n);
-}
-
-pub fn say_answer(command: Command, answer: Answer, words: &[u64], bytes: &[u8]) {
-    let mut out = line_memory();
-    let n = print_answer(command, answer, words, bytes, &mut out);
-    print(&out, n);
-}
-
-pub fn say_samples(answer: Answer, count: Adus, words: &[u64]) {
-    let mut out = line_memory();
-    let n = print_samples(answer, count, words, &mut out);
-    print(&out, n);
-}
-
-pub fn say_address(number: u64, filled: u64, bytes: &[u8]) {
-    let mut out = line_memory();
-    let n = print_address(number, filled, bytes, &mut out);
-    print(&out, n);
 }

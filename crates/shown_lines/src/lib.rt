@@ -4,6 +4,8 @@
 
 mod answers;
 mod errors;
+mod output;
 
-pub use answers::{say_address, say_answer, say_outcome, say_samples};
-pub use errors::{say, say_number, tell_expected, tell_lent, tell_store, tell_too_long};
+pub use answers::say_line;
+pub use errors::LineError;
+pub use output::say;

@@ -1,17 +1,18 @@
 -- How a call's questions are put in parts, and what a refused and an accepted call may hand back.
-use Prim.Native.Nat.{ℕ, zero, suc, ◌<◌}
-use mathlib.Core.Bool.{Bool, true, false, cond}
+use Prim.Native.Nat.{ℕ}
+use mathlib.Core.Bool.{Bool, true, false}
 use mathlib.Core.List.{List, [], ◌∷◌, ◌++◌}
 use mathlib.Core.Path.{◌≡◌, refl, sym, ap, ◌∙◌}
 use native.Mathlib.Omega.{arith}
-use lib.Dec.{ltb}
-use borrow.Author.Tests.{ltb-true, ne_eqb}
+use borrow.Author.Tests.{ne_eqb}
 use Rattle.geometry.proofs.Laws.Questions.{answered_no, answered_yes, positive, then_asked, then_not}
-use Rattle.geometry.proofs.Laws.Shape.{both}
 use Rattle.geometry.specs.Questions.{Question, ask, first_no, success}
 use Rattle.tables.proofs.Refusals.{refusal_positive}
-use Rattle.tables.specs.Serving.{answering, refusing, served}
-use Rattle.tables.specs.Verdicts.{then_number}
+use Rattle.tables.specs.Serving.{answer_from, answering, refusing, served}
+use Rattle.tables.specs.Verdicts.{verdict_number}
+use Rattle.std.specs.Prelude.{Result, cond}
+use Rattle.std.specs.Result.{IsErrAnd}
+use Rattle.std.proofs.lemmas.Result.{err_from_is_err_and}
 use Rattle.model.specs.Answers.{number_of, outcome_of}
 use Rattle.model.specs.declared.answer.Answer.{Answer}
 use Rattle.model.specs.declared.answer.Refusal.{Refusal}
@@ -26,60 +27,24 @@ use Rattle.rules.specs.Soundness.{sound}
 
 -- ---- Questions in parts
 
--- One question, then more.
-pub first_then : (n : ℕ) (b : Bool) (qs : List Question) → 0 < n → first_no (ask n b ∷ qs) ≡ then_number (cond b 0 n) (first_no qs)
-unfolding first_no then_number
-first_then n true qs l = refl
-first_then zero false qs l = absurd (omega (arith, l))
-first_then (suc n) false qs l = refl
+-- A no to one of the questions put first is the first no of all: what the exit of a `?` hands back.
+pub no_stays : (r : Result (Unit {0}) Refusal) (qs rs : List Question) (reason : Refusal)
+    → IsErrAnd r (λ given. given ≡ reason)
+    → number_of reason ≡ first_no qs
+    → verdict_number r ≡ first_no (qs ++ rs)
+no_stays r qs rs reason gives e =
+    let p = err_from_is_err_and r gives in
+    rw (p.1, p.2) (sym (then_not qs rs (number_of reason) (refusal_positive reason) (sym e)))
 
-then_none : (n : ℕ) → then_number n 0 ≡ n
-unfolding then_number
-then_none zero = refl
-then_none (suc n) = refl
+-- A question that is answered yes, ..
+pub asked_yes : (b : Bool) (reason : Refusal) → 0 ≡ cond b 0 (number_of reason) → b ≡ true
+asked_yes true reason e = refl
+asked_yes false reason e = absurd (omega (arith, refusal_positive reason, e))
 
-then_then : (a b c : ℕ) → then_number (then_number a b) c ≡ then_number a (then_number b c)
-unfolding then_number
-then_then zero b c = refl
-then_then (suc a) b c = refl
-
--- Two lists, one after the other.
-pub first_append : (xs ys : List Question) → positive xs ≡ true → first_no (xs ++ ys) ≡ then_number (first_no xs) (first_no ys)
-unfolding positive first_no then_number
-first_append [] ys p = refl
-first_append (x ∷ xs) ys p =
-    let h = both (ltb 0 x.number) (positive xs) p in
-    let l = ltb-true 0 x.number h.0 in
-    rw (
-      first_then x.number x.holds (xs ++ ys) l,
-      first_then x.number x.holds xs l,
-      first_append xs ys h.1,
-      then_then (cond x.holds 0 x.number) (first_no xs) (first_no ys),
-    )
-
--- A verdict with the questions of a list put after it, one by one.
-unfoldable pub chain : ℕ → List Question → ℕ
-chain first [] = first
-chain first (q ∷ qs) = chain (then_number first (cond q.holds 0 q.number)) qs
-
-chain_then : (first : ℕ) (qs : List Question) → positive qs ≡ true → chain first qs ≡ then_number first (first_no qs)
-unfolding chain positive first_no
-chain_then first [] p = sym (then_none first)
-chain_then first (q ∷ qs) p =
-    let h = both (ltb 0 q.number) (positive qs) p in
-    let n = cond q.holds 0 q.number in
-    chain_then (then_number first n) qs h.1
-    ∙ then_then first n (first_no qs)
-    ∙ ap (then_number first) (sym (first_then q.number q.holds qs (ltb-true 0 q.number h.0)))
-
--- So the questions of a list can be put one by one, ..
-pub one_by_one : (qs : List Question) → positive qs ≡ true → chain 0 qs ≡ first_no qs
-unfolding then_number
-one_by_one qs p = chain_then 0 qs p
-
--- .. also behind those of another.
-pub one_by_one_after : (xs ys : List Question) → positive xs ≡ true → positive ys ≡ true → chain (first_no xs) ys ≡ first_no (xs ++ ys)
-one_by_one_after xs ys p q = chain_then (first_no xs) ys q ∙ sym (first_append xs ys p)
+-- .. or no.
+pub asked_no : (b : Bool) (given reason : Refusal) → number_of given ≡ cond b 0 (number_of reason) → (b ≡ false) × (number_of given ≡ number_of reason)
+asked_no true given reason e = absurd (omega (arith, refusal_positive given, e))
+asked_no false given reason e = (refl, e)
 
 -- ---- What is asked first, and then
 
@@ -152,6 +117,14 @@ pub then_refused : (v : Drive) (k : Call) (words bytes : List ℕ) (reason : Ref
     → number_of reason ≡ first_no (asked_then k.asks v k)
     → Serves v k words bytes (served (refusing v.table reason) v.store words bytes)
 then_refused v k words bytes reason first e = refused_call v k words bytes reason (then_verdict v k first ∙ sym e)
+
+-- What the exit of a `?` hands back of it.
+pub refused_by : (v : Drive) (k : Call) (words bytes : List ℕ) (r : Result (Unit {0}) Refusal) (reason : Refusal)
+    → IsErrAnd r (λ given. given ≡ reason)
+    → Serves v k words bytes (served (refusing v.table reason) v.store words bytes)
+    → Serves v k words bytes (served (answering v.table (answer_from r)) v.store words bytes)
+refused_by v k words bytes r reason gives serves =
+    let p = err_from_is_err_and r gives in rw (p.1, p.2) serves
 
 -- An accepted call that fills nothing and leaves the store: its answer and its table.
 pub then_changed : (v : Drive) (k : Call) (words bytes values : List ℕ) (answer : Answer) (after-it : Table) → first_no (first_questions v k) ≡ 0

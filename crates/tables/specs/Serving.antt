@@ -1,9 +1,9 @@
 -- What the functions of the manager and of the recorder, and each command's function, are given and hand back, in the rules' terms.
-use Rattle.std.specs.Prelude.{ℕ, List}
+use Rattle.std.specs.Prelude.{ℕ, List, Result, Ok, Err}
 use Rattle.tables.specs.declared.served.Served.{Served}
 use Rattle.model.specs.Answers.{outcome_of}
 use Rattle.model.specs.declared.answer.Answer.{Answer}
-use Rattle.model.specs.declared.answer.Answer.TheVariants.{Refused}
+use Rattle.model.specs.declared.answer.Answer.TheVariants.{Done, Refused}
 use Rattle.model.specs.declared.answer.Refusal.{Refusal}
 use Rattle.model.specs.declared.command.Command.{Command}
 use Rattle.model.specs.declared.table.Table.{Table}
@@ -26,6 +26,11 @@ served r store words bytes = record {
 -- The answer of a command, and the table that it leaves.
 abbrev pub answering : Table → Answer → Served
 answering t answer = record { answer = answer; table = t }
+
+-- The answer of a command that answers success alone.
+abbrev pub answer_from : Result (Unit {0}) Refusal → Answer
+answer_from (Ok _) = Done
+answer_from (Err reason) = Refused reason
 
 -- A refusal leaves the table.
 abbrev pub refusing : Table → Refusal → Served

@@ -1,21 +1,15 @@
 -- What the questions put so far come to.
-use Rattle.std.specs.Prelude.{ℕ, zero, suc, List, [], ◌∷◌}
+use Rattle.std.specs.Prelude.{ℕ, List, [], ◌∷◌, Result, Ok, Err}
 use Rattle.geometry.specs.Questions.{Question, ask}
-use Rattle.tables.specs.declared.questions.Verdict.{Verdict}
-use Rattle.tables.specs.declared.questions.Verdict.TheVariants.{No, Pass}
+use Rattle.model.specs.declared.answer.Refusal.{Refusal}
 use Rattle.model.specs.Answers.{number_of}
 use Rattle.model.specs.declared.table.Table.{Table}
 use Rattle.rules.specs.Questions.{covered_after, serials_left, within_quota}
 
 -- The number of the first no, or 0.
-abbrev pub verdict_number : Verdict → ℕ
-verdict_number Pass = 0
-verdict_number (No reason) = number_of reason
-
--- More questions: the first no stays.
-unfoldable pub then_number : ℕ → ℕ → ℕ
-then_number zero next = next
-then_number (suc first) next = suc first
+abbrev pub verdict_number : Result (Unit {0}) Refusal → ℕ
+verdict_number (Ok _) = 0
+verdict_number (Err reason) = number_of reason
 
 -- 12 to 14, of so many new serials and new blocks.
 abbrev pub new_blocks_questions : Table → ℕ → ℕ → ℕ → List Question

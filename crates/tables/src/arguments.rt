@@ -15,8 +15,5 @@ pub fn is_count(count: Adus) -> bool
 pub fn ends_within(at: Adus, count: Adus, end: Adus) -> bool
     ensures { result ≡ leb (at.0 + count.0) end.0 }
 {
-    if end.0 < count.0 {
-        return false;
-    }
-    at.0 <= end.0 - count.0
+    count.0 <= end.0 && at.0 <= end.0 - count.0
 }

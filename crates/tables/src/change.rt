@@ -1,22 +1,22 @@
 // What a command changes in a table, as little as can be told of it.
 ghost use Rattle.std.specs.Prelude.{◌≡◌};
 ghost use Rattle.model.specs.declared.answer.Answer.TheVariants.{Refused};
-ghost use Rattle.tables.specs.Changing.{block_change, deletion_of, domain_change, leaving, no_change, opening_change, pulse_change};
+ghost use Rattle.tables.specs.Changing.{block_change, deletion_of, domain_change, leaving, no_change, opening_change, outcome_from, pulse_change};
+ghost use Rattle.tables.specs.Serving.{answer_from};
 
-use crate::records::{clear_block, clear_domain};
+use crate::records::clear_domain;
 use model::{Answer, Block, Domain, Refusal};
 
-// The new records of a block and of a domain; a number of none changes none. Or of every block: seconds pass, or those
-// that the domain holds are freed.
+// What a command changes: a block gets a new record, so many seconds pass for every open one, the blocks that the domain
+// holds are freed, and the domain gets a new record; domain 0 is none. Each may come beside the others, so it is no enum;
+// and domain and record are no Option, since the write that goes on takes a domain and a record in any case.
 #[derive(Clone, Copy)]
 pub struct Change {
-    pub number: u64,
-    pub block: Block,
+    pub one: Option<(u64, Block)>,
+    pub pulsed: Option<u32>,
+    pub frees: bool,
     pub domain: u64,
     pub owner: Domain,
-    pub pulses: bool,
-    pub seconds: u32,
-    pub frees: bool,
 }
 
 // What a command answers, and what it changes.
@@ -26,20 +26,15 @@ pub struct Outcome {
     pub change: Change,
 }
 
-// No block has this number.
-pub const NO_BLOCK: u64 = 0xffff_ffff;
-
 fn nothing() -> Change
     ensures { result ≡ no_change }
 {
     Change {
-        number: NO_BLOCK,
-        block: clear_block(),
+        one: None,
+        pulsed: None,
+        frees: false,
         domain: 0,
         owner: clear_domain(),
-        pulses: false,
-        seconds: 0,
-        frees: false,
     }
 }
 
@@ -60,52 +55,76 @@ pub fn refusal(reason: Refusal) -> Outcome
     unchanged(Answer::Refused(reason))
 }
 
+// What a command's function hands back, as an outcome.
+pub fn outcome_from(given: Result<Outcome, Refusal>) -> Outcome
+    ensures { result ≡ outcome_from given }
+{
+    match given {
+        Ok(outcome) => outcome,
+        Err(reason) => refusal(reason),
+    }
+}
+
+// The answer of a command that answers success alone.
+pub fn answer_from(given: Result<(), Refusal>) -> Answer
+    ensures { result ≡ answer_from given }
+{
+    match given {
+        Ok(()) => Answer::Done,
+        Err(reason) => Answer::Refused(reason),
+    }
+}
+
 // A block's new record, ..
 pub fn block_change(n: u64, block: Block) -> Change
     ensures { result ≡ block_change n block }
 {
-    let mut change = nothing();
-    change.number = n;
-    change.block = block;
-    change
+    Change {
+        one: Some((n, block)),
+        ..nothing()
+    }
 }
 
 // .. or a domain's, ..
 pub fn domain_change(domain: u64, new: Domain) -> Change
     ensures { result ≡ domain_change domain new }
 {
-    let mut change = nothing();
-    change.domain = domain;
-    change.owner = new;
-    change
+    Change {
+        domain,
+        owner: new,
+        ..nothing()
+    }
 }
 
 // .. or both.
 pub fn opening_change(n: u64, block: Block, domain: u64, new: Domain) -> Change
     ensures { result ≡ opening_change n block domain new }
 {
-    let mut change = block_change(n, block);
-    change.domain = domain;
-    change.owner = new;
-    change
+    Change {
+        one: Some((n, block)),
+        domain,
+        owner: new,
+        ..nothing()
+    }
 }
 
 // A domain's blocks are freed and its record is cleared.
 pub fn deletion(domain: u64) -> Change
     ensures { result ≡ deletion_of domain }
 {
-    let mut change = nothing();
-    change.domain = domain;
-    change.frees = true;
-    change
+    Change {
+        frees: true,
+        domain,
+        ..nothing()
+    }
 }
 
 // Seconds pass for every open block.
 pub fn pulse_change(seconds: u32) -> Change
     ensures { result ≡ pulse_change seconds }
 {
-    let mut change = nothing();
-    change.pulses = true;
-    change.seconds = seconds;
-    change
+    Change {
+        pulsed: Some(seconds),
+        ..nothing()
+    }
 }

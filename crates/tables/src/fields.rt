@@ -10,14 +10,10 @@ pub fn state_byte(state: State) -> u64
 {
     match state {
         State::Free => 1,
-        State::Open(way) => match way {
-            Way::Erase => 8,
-            Way::Placement(_) => 4,
-        },
-        State::Closed(way) => match way {
-            Way::Erase => 10,
-            Way::Placement(_) => 6,
-        },
+        State::Open(Way::Erase) => 8,
+        State::Open(Way::Placement(_)) => 4,
+        State::Closed(Way::Erase) => 10,
+        State::Closed(Way::Placement(_)) => 6,
     }
 }
 
@@ -43,5 +39,5 @@ pub fn wear_index(rated: u64, erases: u32) -> u64
     } else {
         below + 1
     };
-    if index <= 255 { index } else { 255 }
+    index.min(255)
 }

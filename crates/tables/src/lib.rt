@@ -13,10 +13,10 @@ mod served;
 
 pub use arguments::{ends_within, is_count};
 pub use change::{
-    Change, NO_BLOCK, Outcome, block_change, deletion, domain_change, opening_change, pulse_change,
-    refusal, unchanged,
+    Change, Outcome, answer_from, block_change, deletion, domain_change, opening_change,
+    outcome_from, pulse_change, refusal, unchanged,
 };
 pub use fields::{integrity, state_byte, wear_index};
-pub use questions::{Verdict, ask, is_held, may_open, reserved_by, serials_left, within_quota};
+pub use questions::{ask, is_held, may_open, reserved_by, serials_left, within_quota};
 pub use records::{clear_block, clear_domain, is_closed, is_free, is_open, is_open_by_erase};
 pub use served::Served;

@@ -2,44 +2,15 @@
 ghost use Rattle.std.specs.Prelude.{cond, ◌≡◌, ◌+◌, ◌<◌, leb, ltb};
 ghost use Rattle.model.specs.Answers.{number_of};
 ghost use Rattle.rules.specs.Drive.{held_by};
-ghost use Rattle.tables.specs.Verdicts.{then_number, verdict_number};
+ghost use Rattle.tables.specs.Verdicts.{verdict_number};
 
 use model::{Block, Domain, Refusal};
 
-#[derive(Clone, Copy)]
-pub enum Verdict {
-    Pass,
-    No(Refusal),
-}
-
-// One question.
-pub fn ask(holds: bool, reason: Refusal) -> Verdict
+// One question: a no is its reason. `geometry` has one of its own, over its own four reasons and their numbers.
+pub fn ask(holds: bool, reason: Refusal) -> Result<(), Refusal>
     ensures { verdict_number result ≡ cond holds 0 (number_of reason) }
 {
-    if holds {
-        Verdict::Pass
-    } else {
-        Verdict::No(reason)
-    }
-}
-
-impl Verdict {
-    // More questions.
-    pub fn then(self, next: Verdict) -> Verdict
-        ensures { verdict_number result ≡ then_number (verdict_number self) (verdict_number next) }
-    {
-        match self {
-            Verdict::Pass => next,
-            Verdict::No(_) => self,
-        }
-    }
-
-    // One question more.
-    pub fn and(self, holds: bool, reason: Refusal) -> Verdict
-        ensures { verdict_number result ≡ then_number (verdict_number self) (cond holds 0 (number_of reason)) }
-    {
-        self.then(ask(holds, reason))
-    }
+    if holds { Ok(()) } else { Err(reason) }
 }
 
 // ---- What is asked of one record

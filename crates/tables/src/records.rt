@@ -26,46 +26,23 @@ pub fn clear_domain() -> Domain
 pub fn is_free(block: Block) -> bool
     ensures { result ≡ is_free block }
 {
-    let state = block.state;
-    match state {
-        State::Free => true,
-        State::Open(_) => false,
-        State::Closed(_) => false,
-    }
+    matches!(block.state, State::Free)
 }
 
 pub fn is_open(block: Block) -> bool
     ensures { result ≡ is_open block }
 {
-    let state = block.state;
-    match state {
-        State::Free => false,
-        State::Open(_) => true,
-        State::Closed(_) => false,
-    }
+    matches!(block.state, State::Open(_))
 }
 
 pub fn is_closed(block: Block) -> bool
     ensures { result ≡ is_closed block }
 {
-    let state = block.state;
-    match state {
-        State::Free => false,
-        State::Open(_) => false,
-        State::Closed(_) => true,
-    }
+    matches!(block.state, State::Closed(_))
 }
 
 pub fn is_open_by_erase(block: Block) -> bool
     ensures { result ≡ is_open_by_erase block }
 {
-    let state = block.state;
-    match state {
-        State::Free => false,
-        State::Open(way) => match way {
-            Way::Erase => true,
-            Way::Placement(_) => false,
-        },
-        State::Closed(_) => false,
-    }
+    matches!(block.state, State::Open(Way::Erase))
 }

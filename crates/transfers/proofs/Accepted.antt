@@ -1,5 +1,5 @@
 -- What a Write by block and a Read may count on once their questions are answered yes, and what they then hand back.
-use Prim.Native.Nat.{ℕ, ◌+◌, ◌≤◌, ◌<◌}
+use Prim.Native.Nat.{ℕ, ◌+◌, ◌≤◌, ◌<◌, min}
 use mathlib.Core.Bool.{true, ◌&&◌}
 use mathlib.Core.List.{List, [], ◌++◌}
 use mathlib.Core.Path.{◌≡◌, refl, sym, ◌∙◌}
@@ -10,7 +10,8 @@ use Rattle.geometry.proofs.Laws.Questions.{positive, then_asked, then_not}
 use Rattle.geometry.proofs.Laws.Shape.{both, by_test, is_between}
 use Rattle.geometry.specs.Address.{fields_of, is_block, is_domain_id, is_offset}
 use Rattle.geometry.specs.Questions.{Question, first_no}
-use Rattle.geometry.specs.Shape.{adus_per_block, store_length, within_limits}
+use Rattle.buffers.proofs.Stretches.{Stretch, stretch}
+use Rattle.geometry.specs.Shape.{adus_per_block, counted, store_length, stretch_start, within_limits}
 use Rattle.geometry.specs.declared.address.FlashAddress.{FlashAddress}
 use Rattle.geometry.specs.declared.shape.Adus.{Adus}
 use Rattle.geometry.specs.declared.shape.Config.{Config}
@@ -29,9 +30,10 @@ use Rattle.rules.specs.Calls.{calling}
 use Rattle.rules.specs.Drive.{Drive, overwritten, size, with_block}
 use Rattle.rules.specs.Effects.{Serves, effect}
 use Rattle.rules.specs.Questions.{is_count, later_questions, user_addresses_fit}
-use Rattle.scan.proofs.Outcomes.{begun_yes}
+use Rattle.scan.proofs.Outcomes.{begun_entries, begun_limits, begun_yes}
 use Rattle.scan.proofs.Seeing.{changed_block, sound_limits}
-use Rattle.scan.specs.First.{Begins}
+use Rattle.scan.specs.First.{Begins, FirstPassed}
+use Rattle.scan.specs.Summary.{Seen}
 use Rattle.scan.specs.declared.summary.Summary.{Summary}
 use Rattle.tables.proofs.Answering.{accepted_call, then_refused, then_verdict}
 use Rattle.tables.proofs.Refusals.{refusal_positive}
@@ -65,6 +67,24 @@ unfolding positive write_arguments write_state
 write_fits x words d n start count e =
     let qs = write_arguments x words n count ++ write_state x d start count in
     (yes_in 8 qs refl e, leb-true count.0 words (yes_in 7 qs refl e))
+
+-- What it may count on, with the block's stretch cut out of the store.
+pub record WritesCut (x : Summary) (d n : ℕ) (count : Adus) (store : List ℕ) (start capacity : ℕ) : Type 0 where
+  pub may : MayWriteIn x.config d n x.block count.0
+  pub entries : length store ≡ (store_length x.config).0
+  pub cut_out : Stretch x.config store n start capacity
+
+pub writes_cut : (x : Summary) (d n from : ℕ) (count : Adus) (store : List ℕ) (words : ℕ) (start capacity : Adus)
+    → Seen d x → FirstPassed (WriteByBlock d n from count) (length store) x
+    → first_no (write_arguments x words n count ++ write_state x d from count) ≡ 0
+    → start.0 ≡ counted x.config (stretch_start x.config (min n x.config.blocks)).0
+    → capacity.0 ≡ counted x.config (adus_per_block x.config).0
+    → WritesCut x d n count store start.0 capacity.0
+writes_cut x d n from count store words start capacity seen first pass starts counts =
+    let k = WriteByBlock d n from count in
+    let may = may_write x words d n from count (begun_limits k (length store) x seen first) (begun_yes 4 seen.0 k (length store) (first seen.0 seen.1)) pass in
+    let all = begun_entries k (length store) x refl seen first in
+    record { may = may; entries = all; cut_out = stretch x.config store n start capacity may.limits may.inside all starts counts }
 
 -- The block's new record and what was put into the store and the words are what it hands back.
 pub write_done : (t : Table) (store words bytes : List ℕ) (d n start : ℕ) (count : Adus) (b : Block) (left filled : List ℕ)
@@ -110,6 +130,23 @@ may_read x entries words d a count expected within all e =
       enough = leb-true count.0 words (yes_in 7 qs refl e);
       fits = yes_in 8 qs refl e;
     }
+
+-- With the block's stretch cut out of the store.
+pub record ReadsCut (x : Summary) (a : FlashAddress) (count expected : ℕ) (store : List ℕ) (words start capacity : ℕ) : Type 0 where
+  pub may : MayRead x.config (length store) words a count expected
+  pub cut_out : Stretch x.config store a.block start capacity
+
+pub reads_cut : (x : Summary) (d address : ℕ) (count : Adus) (expected : ℕ) (a : FlashAddress) (store : List ℕ) (words : ℕ) (start capacity : Adus)
+    → Seen d x → FirstPassed (Read d address count expected) (length store) x
+    → first_no (read_arguments x words a count ++ read_state x d a count expected) ≡ 0
+    → start.0 ≡ counted x.config (stretch_start x.config (min a.block x.config.blocks)).0
+    → capacity.0 ≡ counted x.config (adus_per_block x.config).0
+    → ReadsCut x a count.0 expected store words start.0 capacity.0
+reads_cut x d address count expected a store words start capacity seen first pass starts counts =
+    let k = Read d address count expected in
+    let may = may_read x (length store) words d a count expected (begun_limits k (length store) x seen first)
+    (begun_entries k (length store) x refl seen first) pass in
+    record { may = may; cut_out = stretch x.config store a.block start capacity may.limits may.inside may.entries starts counts }
 
 module _ (v : Drive) (words bytes : List ℕ) (d address : ℕ) (count : Adus) (expected : ℕ)
     (first : Begins v.table (Read d address count expected) (length v.store)) where

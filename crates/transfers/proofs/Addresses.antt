@@ -1,16 +1,18 @@
 -- The rows of addresses that a write fills in: user addresses into the store, flash addresses into the words.
 use Prim.Native.Nat.{ℕ, zero, suc, ◌+◌, ◌*◌, ◌^◌, ◌≤◌, ◌<◌}
-use mathlib.Core.Bool.{true, not}
+use mathlib.Core.Bool.{false}
 use mathlib.Core.List.{[], ◌∷◌}
 use mathlib.Core.Path.{◌≡◌, refl, sym, ap, ◌∙◌}
 use native.Mathlib.Nat.{add_assoc}
+use native.Mathlib.Numerals.{add-one}
 use native.Mathlib.Omega.{arith}
 use lib.Dec.{eqb}
-use lib.ListN.{get_or}
+use lib.ListN.{get_or, replicate, replicate-append-replicate}
+use borrow.Author.Tests.{eq-eqb}
 use Rattle.geometry.proofs.Laws.Address.{below_48, fields}
 use Rattle.geometry.proofs.Laws.Answers.{Addressed}
 use Rattle.geometry.proofs.Laws.Questions.{answered_yes}
-use Rattle.geometry.proofs.Laws.Shape.{by_test, is_between, limits}
+use Rattle.geometry.proofs.Laws.Shape.{is_between, limits}
 use Rattle.geometry.specs.Address.{offset_bits, word_of}
 use Rattle.geometry.specs.Answers.{address_questions, number_of, word_answer}
 use Rattle.geometry.specs.Questions.{Outcome, first_no, refusal, success}
@@ -21,7 +23,6 @@ use Rattle.geometry.specs.declared.address.Refusal.TheVariants.{DomainId, Limits
 use Rattle.geometry.specs.declared.shape.Config.{Config}
 use Rattle.buffers.proofs.UserAddresses.{ones_address, plain_address}
 use Rattle.transfers.specs.Transfers.{MayWriteIn, address_in}
-use Rattle.buffers.specs.Rows.{entry_at}
 use Rattle.model.specs.declared.block.Block.{Block}
 use Rattle.rules.specs.Blocks.{all_ones, user_address, user_addresses}
 use Rattle.rules.specs.Counting.{row_to}
@@ -34,13 +35,18 @@ row_each (suc n) f g h = rw (row_each n f g h, h n)
 
 -- ---- User addresses
 
--- They rise by one, or are all ones.
-pub users_row : (start count : ℕ) → row_to (entry_at start (not (eqb start all_ones))) count ≡ user_addresses start count
-users_row start count =
-    row_each count (entry_at start (not (eqb start all_ones))) (user_address start)
-    (λ i. by_test (eqb start all_ones)
-    (λ e. rw e (sym (ones_address start i e)))
-    (λ e. rw e (sym (plain_address start i e))))
+-- They rise by one, ..
+pub users_rise : (start count : ℕ) → eqb start all_ones ≡ false
+    → row_to (λ i. start + i) count ≡ user_addresses start count
+users_rise start count e =
+    row_each count (λ i. start + i) (user_address start) (λ i. sym (plain_address start i e))
+
+-- .. or are all ones.
+pub users_ones : (start count : ℕ) → start ≡ all_ones → replicate count all_ones ≡ user_addresses start count
+unfolding row_to
+users_ones start zero e = refl
+users_ones start (suc count) e =
+    sym (rw (← users_ones start count e, ones_address start count (eq-eqb start all_ones e), e) (replicate-append-replicate count 1 all_ones ∙ ap (λ (k : ℕ). replicate k all_ones) (add-one count)))
 
 -- ---- Flash addresses
 
@@ -51,9 +57,9 @@ word_later c d n offset i = sym (add_assoc (d * 2 ^ 48 + n * 2 ^ offset_bits c) 
 
 -- .. so that they rise by one from the first.
 pub words_row : (c : Config) (d n offset count : ℕ)
-    → row_to (entry_at (word_of c (address_in d n (adus offset))) true) count ≡ row_to (λ i. word_of c (address_in d n (adus (offset + i)))) count
+    → row_to (λ i. word_of c (address_in d n (adus offset)) + i) count ≡ row_to (λ i. word_of c (address_in d n (adus (offset + i)))) count
 words_row c d n offset count =
-    row_each count (entry_at (word_of c (address_in d n (adus offset))) true) (λ i. word_of c (address_in d n (adus (offset + i))))
+    row_each count (λ i. word_of c (address_in d n (adus offset)) + i) (λ i. word_of c (address_in d n (adus (offset + i))))
     (λ i. sym (word_later c d n offset i))
 
 -- A word of the drive is far below 2 ^ 64.

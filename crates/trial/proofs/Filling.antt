@@ -1,12 +1,12 @@
 -- Rows and lists that are filled one record after the other.
-use Prim.Native.Nat.{ℕ, zero, suc, ◌+◌, ◌*◌, ◌-◌, ◌≤◌, ◌<◌}
-use mathlib.Core.List.{List, [], ◌++◌, append-nil}
+use Prim.Native.Nat.{ℕ, zero, suc, ◌+◌, ◌*◌, ◌≤◌, ◌<◌}
+use mathlib.Core.List.{List, []}
 use mathlib.Core.Path.{◌≡◌, refl, sym, ap, ◌∙◌}
 use native.Mathlib.Nat.{mul-suc, mul-zero}
 use native.Mathlib.Numerals.{add-one}
 use native.Mathlib.Omega.{arith}
-use lib.ListN.{drop, get_or, length, length-append, length-drop, set, take, take-append-drop}
-use lib.Seq.{drop-length, take_all, take-length, take-suc-set}
+use lib.ListN.{get_or, length, length-append, set, take, take-append-drop}
+use lib.Seq.{take_all, take-suc-set}
 use Rattle.model.specs.declared.block.Block.{Block}
 use Rattle.model.specs.declared.table.Domain.{Domain}
 use Rattle.model.specs.declared.table.Table.{Table}
@@ -32,15 +32,6 @@ pub records_all : {A : Type 0} (f : ℕ → A) (l : List A) (k n : ℕ) → k �
 records_all f l k n all long e = sym (take_all k l (omega arith)) ∙ e ∙ ap (records_to f) all
 
 -- ---- Rows
-
--- The part from a place to the end, filled in at its front.
-pub fill_behind : (at : ℕ) (new row : List ℕ)
-    → take at row ++ (overwritten 0 new (take (length row - at) (drop at row)) ++ drop (length row - at) (drop at row))
-    ≡ overwritten at new row
-unfolding overwritten
-fill_behind at new row =
-    rw (← length-drop at row, take-length (drop at row), drop-length (drop at row))
-    (ap (λ (r : List ℕ). take at row ++ r) (append-nil (new ++ drop (length new) (drop at row))))
 
 -- Records one behind the other: at first nothing is filled in.
 pub joined_none : (f : ℕ → List ℕ) (at : ℕ) (row : List ℕ) → row ≡ overwritten at (joined_to f 0) row

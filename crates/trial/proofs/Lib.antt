@@ -1,4 +1,3 @@
 -- Laws that the functions' proofs share.
 pub mod Filling
-pub mod AnswerNumbers
 pub mod Bytes

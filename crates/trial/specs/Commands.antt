@@ -17,6 +17,10 @@ use Rattle.trial.specs.declared.commands.Request.TheVariants as request
 abbrev pub listed_of : ℕ → Listed
 listed_of n = cond (eqb n 0) listed.Open listed.Closed
 
+-- What five arguments in a row make.
+abbrev pub of_five : {A : Type 0} → (ℕ → ℕ → ℕ → ℕ → ℕ → A) → List ℕ → A
+of_five f row = f (number_in row 0) (number_in row 1) (number_in row 2) (number_in row 3) (number_in row 4)
+
 -- On domains and blocks, kinds 0 to 5.
 abbrev pub change_of : ℕ → ℕ → ℕ → ℕ → ℕ → ℕ → Command
 change_of kind a b c d e =

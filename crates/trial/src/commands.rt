@@ -1,14 +1,15 @@
-// A command, or one of the recorder's calls, as six numbers: its kind and its arguments, in their order.
+// A command, or one of the recorder's calls, as six numbers: its kind and its arguments, in their order. The C interface
+// needs the numbers, those of the kinds and of the answers too.
 ghost use Rattle.std.specs.Prelude.{◌≡◌, ◌+◌, ◌≤◌, length};
-ghost use Rattle.trial.specs.Commands.{answer_number, asked_for, asked_in, asked_of, change_of, command_of, listed_of, transfer_of};
+ghost use Rattle.trial.specs.Commands.{answer_number, asked_for, asked_in, asked_of, change_of, command_of, listed_of, of_five, transfer_of};
 
 use geometry::{Adus, Planes};
 use model::{Answer, Command, Listed};
 
 // What is asked for: a command of the manager, or one of the recorder's two calls, a domain and a sample to
 // append, or a domain and how many of its latest samples to read.
-#[derive(Clone, Copy)]
-pub(crate) enum Request {
+#[derive(Clone, Copy, Debug, PartialEq, Eq)]
+pub enum Request {
     Command(Command),
     Append(u64, u64),
     Latest(u64, Adus),
@@ -21,9 +22,10 @@ fn listed_of(n: u64) -> Listed
 }
 
 // On domains and blocks.
-fn change_of(kind: u64, a: u64, b: u64, c: u64, d: u64, e: u64) -> Command
-    ensures { result ≡ change_of kind a b c d e }
+fn change_of(kind: u64, arguments: [u64; 5]) -> Command
+    ensures { result ≡ of_five (change_of kind) arguments }
 {
+    let [a, b, c, d, e] = arguments;
     match kind {
         0 => Command::Create {
             domain: a,
@@ -54,9 +56,10 @@ fn change_of(kind: u64, a: u64, b: u64, c: u64, d: u64, e: u64) -> Command
 }
 
 // On ADUs, log pages and time.
-fn transfer_of(kind: u64, a: u64, b: u64, c: u64, d: u64) -> Command
-    ensures { result ≡ transfer_of kind a b c d }
+fn transfer_of(kind: u64, arguments: [u64; 5]) -> Command
+    ensures { result ≡ of_five (λ a b c d e. transfer_of kind a b c d) arguments }
 {
+    let [a, b, c, d, _] = arguments;
     match kind {
         6 => Command::WriteByPlacement {
             domain: a,
@@ -89,24 +92,25 @@ fn transfer_of(kind: u64, a: u64, b: u64, c: u64, d: u64) -> Command
 }
 
 // The commands, kinds 0 to 11.
-fn command_of(kind: u64, a: u64, b: u64, c: u64, d: u64, e: u64) -> Command
-    ensures { result ≡ command_of kind a b c d e }
+fn command_of(kind: u64, arguments: [u64; 5]) -> Command
+    ensures { result ≡ of_five (command_of kind) arguments }
 {
     if kind < 6 {
-        change_of(kind, a, b, c, d, e)
+        change_of(kind, arguments)
     } else {
-        transfer_of(kind, a, b, c, d)
+        transfer_of(kind, arguments)
     }
 }
 
-// The recorder's calls are kinds 12 and 13.
-pub(crate) fn request_of(kind: u64, a: u64, b: u64, c: u64, d: u64, e: u64) -> Request
-    ensures { asked_for result ≡ asked_of kind a b c d e }
+// What a kind and its arguments ask for. The recorder's calls are kinds 12 and 13.
+pub fn request_of(kind: u64, arguments: [u64; 5]) -> Request
+    ensures { asked_for result ≡ of_five (asked_of kind) arguments }
 {
+    let [domain, number, ..] = arguments;
     match kind {
-        12 => Request::Append(a, b),
-        13 => Request::Latest(a, Adus(b)),
-        _ => Request::Command(command_of(kind, a, b, c, d, e)),
+        12 => Request::Append(domain, number),
+        13 => Request::Latest(domain, Adus(number)),
+        _ => Request::Command(command_of(kind, arguments)),
     }
 }
 
@@ -116,11 +120,13 @@ pub(crate) fn request_in(row: &[u64], at: usize) -> Request
 {
     request_of(
         row[at],
-        row[at + 1],
-        row[at + 2],
-        row[at + 3],
-        row[at + 4],
-        row[at + 5],
+        [
+            row[at + 1],
+            row[at + 2],
+            row[at + 3],
+            row[at + 4],
+            row[at + 5],
+        ],
     )
 }
 

@@ -1,81 +1,50 @@
 // What another implementation is compared with, and timed against. A row that is too short for a table
-// gets 17, which no question has, and nothing is done.
-ghost use Rattle.geometry.specs.Answers.{config_of};
-ghost use Rattle.trial.specs.Commands.{asked_of};
+// gets 17, which no question has, and nothing is done. They answer by numbers, as the C interface does that `trial_c` makes
+// of them.
+ghost use Rattle.trial.specs.Commands.{asked_for};
 ghost use Rattle.trial.specs.Trials.{RunTried, ServeTried, StartTried, lending};
 
 use crate::asking::ask;
-use crate::commands::{answer_number, request_of};
+use crate::commands::{Request, answer_number};
 use crate::rows::{ROW, put_table, table_in};
-use crate::running::run;
+use crate::running::serve_rounds;
 use geometry::Config;
-use manager::start;
 
 const TOO_SHORT: u64 = 17;
 
-#[unsafe(no_mangle)]
-pub extern "C" fn trial_start(
-    pages: u64,
-    dies: u64,
-    planes: u64,
-    adus: u64,
-    blocks: u64,
-    rated: u64,
-    period: u64,
-    row: &mut [u64],
-) -> u64
-    ensures { StartTried (config_of pages dies planes adus blocks rated period) result row.old row.new }
+// A drive is started, and its table put into the row.
+pub fn start(config: Config, row: &mut [u64]) -> u64
+    ensures { StartTried config result row.old row.new }
 {
     if row.len() < ROW {
         return TOO_SHORT;
     }
-    let config = Config {
-        pages,
-        dies,
-        planes,
-        adus,
-        blocks,
-        rated,
-        period,
-    };
-    let started = start(config);
-    let table = started.table;
-    put_table(row, table);
-    let answer = started.answer;
-    answer_number(answer)
+    let started = manager::start(config);
+    put_table(row, started.table);
+    answer_number(started.answer)
 }
 
 // One command on the table of the row, or one of the recorder's calls.
-#[unsafe(no_mangle)]
-pub extern "C" fn trial_serve(
-    kind: u64,
-    a: u64,
-    b: u64,
-    c: u64,
-    d: u64,
-    e: u64,
+pub fn serve(
+    request: Request,
     row: &mut [u64],
     store: &mut [u64],
     words: &mut [u64],
     bytes: &mut [u8],
 ) -> u64
-    ensures { ServeTried (asked_of kind a b c d e) result (lending row.old store.old words.old bytes.old) (lending row.new store.new words.new bytes.new) }
+    ensures { ServeTried (asked_for request) result (lending row.old store.old words.old bytes.old) (lending row.new store.new words.new bytes.new) }
 {
     if row.len() < ROW {
         return TOO_SHORT;
     }
-    let table = table_in(row);
-    let served = ask(table, request_of(kind, a, b, c, d, e), store, words, bytes);
-    let after = served.table;
-    put_table(row, after);
-    let answer = served.answer;
-    answer_number(answer)
+    let served = ask(table_in(row), request, store, words, bytes);
+    put_table(row, served.table);
+    answer_number(served.answer)
 }
 
 // So many commands, one after the other from a row of them and then from its start again. What they
 // answer is summed up.
-#[unsafe(no_mangle)]
-pub extern "C" fn trial_run(
+pub fn run(
     rounds: u64,
     commands: &[u64],
     row: &mut [u64],
@@ -85,15 +54,10 @@ pub extern "C" fn trial_run(
 ) -> u64
     ensures { RunTried rounds commands.now result (lending row.old store.old words.old bytes.old) (lending row.new store.new words.new bytes.new) }
 {
-    if row.len() < ROW {
+    if row.len() < ROW || commands.len() < 6 {
         return TOO_SHORT;
     }
-    if commands.len() < 6 {
-        return TOO_SHORT;
-    }
-    let table = table_in(row);
-    let finished = run(table, rounds, commands, store, words, bytes);
-    let after = finished.table;
-    put_table(row, after);
+    let finished = serve_rounds(table_in(row), rounds, commands, store, words, bytes);
+    put_table(row, finished.table);
     finished.sum
 }

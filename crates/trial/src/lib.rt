@@ -1,5 +1,6 @@
-// The manager and the recorder above it behind a C boundary, for the benchmark and for the comparison with
-// another implementation: a table crosses as a row of numbers, and so does a command or a call of the recorder.
+// The manager and the recorder above it as the C boundary of `trial_c` needs them, for the benchmark and for the
+// comparison with another implementation: a table crosses as a row of numbers, and so does a command or a call of the
+// recorder.
 #![tactic(auto)]
 
 mod asking;
@@ -8,4 +9,5 @@ mod host;
 mod rows;
 mod running;
 
-pub use host::{trial_run, trial_serve, trial_start};
+pub use commands::{Request, request_of};
+pub use host::{run, serve, start};

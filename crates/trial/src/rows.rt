@@ -1,11 +1,10 @@
 // A table as a row of numbers: the configuration's seven, then six for each domain and seven for each
-// block.
+// block. The C interface needs the numbers: a table crosses as nothing else, in a row that is asked to be long enough.
 ghost use Rattle.std.specs.Prelude.{◌≡◌, ◌+◌, ◌≤◌, length};
 ghost use Rattle.rules.specs.Drive.{overwritten};
 ghost use Rattle.trial.specs.Rows.{block_in, block_numbers, config_in, config_numbers, domain_in, domain_numbers, four_bytes, one_byte};
 ghost use Rattle.trial.specs.Rows.{state_code, state_of, state_placement, table_in, way_placement, with_table};
 
-use buffers::put_stretch;
 use geometry::{Adus, Config};
 use model::{Block, Domain, State, Table, Way};
 use tables::{clear_block, clear_domain};
@@ -94,13 +93,13 @@ pub(crate) fn table_in(row: &[u64]) -> Table
     let config = config_in(row);
     let no_domain = clear_domain();
     let mut domains = [no_domain; 16];
-    for i in 0..16 {
-        domains[i] = domain_in(row, DOMAINS + 6 * i);
+    for (i, domain) in domains.iter_mut().enumerate() {
+        *domain = domain_in(row, DOMAINS + 6 * i);
     }
     let no_block = clear_block();
     let mut blocks = [no_block; 256];
-    for n in 0..256 {
-        blocks[n] = block_in(row, BLOCKS + 7 * n);
+    for (n, block) in blocks.iter_mut().enumerate() {
+        *block = block_in(row, BLOCKS + 7 * n);
     }
     Table {
         config,
@@ -116,14 +115,10 @@ fn state_code(state: State) -> u64
 {
     match state {
         State::Free => 0,
-        State::Open(way) => match way {
-            Way::Erase => 1,
-            Way::Placement(_) => 2,
-        },
-        State::Closed(way) => match way {
-            Way::Erase => 3,
-            Way::Placement(_) => 4,
-        },
+        State::Open(Way::Erase) => 1,
+        State::Open(Way::Placement(_)) => 2,
+        State::Closed(Way::Erase) => 3,
+        State::Closed(Way::Placement(_)) => 4,
     }
 }
 
@@ -136,13 +131,13 @@ fn placement_of(way: Way) -> u64
     }
 }
 
+// 0 where a log page has FFFFh.
 fn state_placement(state: State) -> u64
     ensures { result ≡ state_placement state }
 {
     match state {
         State::Free => 0,
-        State::Open(way) => placement_of(way),
-        State::Closed(way) => placement_of(way),
+        State::Open(way) | State::Closed(way) => placement_of(way),
     }
 }
 
@@ -150,7 +145,7 @@ fn put_numbers(row: &mut [u64], at: usize, numbers: &[u64])
     requires { at + length numbers.now ≤ length row.old }
     ensures { row.new ≡ overwritten at numbers.now row.old }
 {
-    put_stretch(&mut row[at..], numbers);
+    row[at..at + numbers.len()].copy_from_slice(numbers);
 }
 
 fn put_config(row: &mut [u64], config: Config)
@@ -173,9 +168,8 @@ fn put_domain(row: &mut [u64], at: usize, domain: Domain)
     requires { at + 6 ≤ length row.old }
     ensures { row.new ≡ overwritten at (domain_numbers domain) row.old }
 {
-    let exists = if domain.exists { 1 } else { 0 };
     let numbers = [
-        exists,
+        u64::from(domain.exists),
         domain.reserved as u64,
         domain.quota as u64,
         domain.placements as u64,
@@ -207,12 +201,10 @@ pub(crate) fn put_table(row: &mut [u64], table: Table)
     ensures { row.new ≡ with_table table row.old }
 {
     put_config(row, table.config);
-    for i in 0..16 {
-        let domain = table.domains[i];
+    for (i, &domain) in table.domains.iter().enumerate() {
         put_domain(row, DOMAINS + 6 * i, domain);
     }
-    for n in 0..256 {
-        let block = table.blocks[n];
+    for (n, &block) in table.blocks.iter().enumerate() {
         put_block(row, BLOCKS + 7 * n, block);
     }
 }

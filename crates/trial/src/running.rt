@@ -32,7 +32,7 @@ fn sum_with(sum: u64, answer: Answer) -> u64
 }
 
 // So many commands on a table, which is lent to each and not copied.
-pub(crate) fn run(
+pub(crate) fn serve_rounds(
     table: Table,
     rounds: u64,
     commands: &[u64],
@@ -46,13 +46,11 @@ pub(crate) fn run(
     let mut changed = table;
     let mut sum: u64 = 0;
     let mut at: usize = 0;
-    let mut n: u64 = 0;
-    while n < rounds {
+    for _ in 0..rounds {
         let request = request_in(commands, at);
         let answer = ask_in(&mut changed, request, store, words, bytes);
         sum = sum_with(sum, answer);
         at = next_place(commands.len(), at);
-        n += 1;
     }
     Finished {
         table: changed,

@@ -1,10 +1,13 @@
-// The three functions of `trial` for `bench`, under the names that `bench/src/rattle.rs` declares. Each says of itself
-// what the library's function says.
+// The three functions of `trial` for `bench`, under the names that `bench/src/rattle.rs` declares. Each says of the
+// numbers that it takes what the library's function says of a configuration or a request.
 #![tactic(auto)]
 
 ghost use Rattle.geometry.specs.Answers.{config_of};
 ghost use Rattle.trial.specs.Commands.{asked_of};
 ghost use Rattle.trial.specs.Trials.{RunTried, ServeTried, StartTried, lending};
+
+use geometry::Config;
+use trial::request_of;
 
 #[unsafe(no_mangle)]
 pub extern "C" fn trial_start(
@@ -19,7 +22,16 @@ pub extern "C" fn trial_start(
 ) -> u64
     ensures { StartTried (config_of pages dies planes adus blocks rated period) result row.old row.new }
 {
-    trial::trial_start(pages, dies, planes, adus, blocks, rated, period, row)
+    let config = Config {
+        pages,
+        dies,
+        planes,
+        adus,
+        blocks,
+        rated,
+        period,
+    };
+    trial::start(config, row)
 }
 
 #[unsafe(no_mangle)]
@@ -37,7 +49,8 @@ pub extern "C" fn trial_serve(
 ) -> u64
     ensures { ServeTried (asked_of kind a b c d e) result (lending row.old store.old words.old bytes.old) (lending row.new store.new words.new bytes.new) }
 {
-    trial::trial_serve(kind, a, b, c, d, e, row, store, words, bytes)
+    let request = request_of(kind, [a, b, c, d, e]);
+    trial::serve(request, row, store, words, bytes)
 }
 
 #[unsafe(no_mangle)]
@@ -51,5 +64,5 @@ pub extern "C" fn trial_run(
 ) -> u64
     ensures { RunTried rounds commands.now result (lending row.old store.old words.old bytes.old) (lending row.new store.new words.new bytes.new) }
 {
-    trial::trial_run(rounds, commands, row, store, words, bytes)
+    trial::run(rounds, commands, row, store, words, bytes)
 }

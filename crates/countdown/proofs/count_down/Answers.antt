@@ -6,5 +6,5 @@ use Rattle.std.proofs.lemmas.List.Edits.{map_over_more}
 use Rattle.model.specs.Blocks.{counted_down}
 use Rattle.countdown.proofs.count_down.Goals as goal
 
-pub loop-i-preserved : goal.loop-i-preserved
-loop-i-preserved c = grind (arith, common_steps, map_over_more (counted_down c.args.seconds), get_or_default)
+pub loop-block-preserved : goal.loop-block-preserved
+loop-block-preserved c = grind (arith, common_steps, map_over_more (counted_down c.args.seconds), get_or_default)

@@ -10,12 +10,12 @@ use lib.Dec.{leb, ltb}
 use lib.Pow.{high, low, mod-mod-pow, pow-add, pow_mono, split}
 use borrow.Author.Tests.{leb-true, leb-false, lt-ltb, ltb-true}
 use Rattle.geometry.specs.Address.{are_elements, elements_of, fields_of, least_from, offset_bits, offset_of, word_of}
-use Rattle.geometry.specs.Shape.{adus, adus_per_block, planes_per_block}
+use Rattle.geometry.specs.Shape.{adus, adus_per_block, planes_per_block, within_limits}
 use Rattle.geometry.specs.declared.address.Elements.{Elements}
 use Rattle.geometry.specs.declared.address.FlashAddress.{FlashAddress}
 use Rattle.geometry.specs.declared.shape.Adus.{Adus}
 use Rattle.geometry.specs.declared.shape.Config.{Config}
-use Rattle.geometry.proofs.Laws.Shape.{Limits, both, by_test}
+use Rattle.geometry.proofs.Laws.Shape.{Limits, both, by_test, limits, products}
 
 -- ---- b
 
@@ -112,6 +112,24 @@ offset_in_range c e r =
     let d = digits_lt r.page r.die in
     let p = digits_lt d r.plane in
     record { die = d; plane = p; adu = digits_lt p r.adu }
+
+-- Each sum on the way to an offset, and so each product, is far below 2 ^ 64.
+pub dies_fit : (c : Config) (e : Elements) → within_limits c ≡ true → are_elements c e ≡ true → e.page * c.dies + e.die < 2 ^ 32
+dies_fit c e within inside =
+    omega (arith, (offset_in_range c e (elements_in_range c e inside)).die, (products c (limits c within).ranges).dies)
+
+pub planes_fit : (c : Config) (e : Elements) → within_limits c ≡ true → are_elements c e ≡ true
+    → (e.page * c.dies + e.die) * c.planes + e.plane < 2 ^ 32
+planes_fit c e within inside =
+    omega (arith, (offset_in_range c e (elements_in_range c e inside)).plane, (limits c within).planes.most)
+
+pub adus_fit : (c : Config) (e : Elements) → within_limits c ≡ true → are_elements c e ≡ true
+    → ((e.page * c.dies + e.die) * c.planes + e.plane) * c.adus + e.adu < 2 ^ 32
+unfolding offset_of
+adus_fit c e within inside =
+    omega (arith, (offset_in_range c e (elements_in_range c e inside)).adu, (limits c within).adus.most)
+
+pub ruleset offsets = (dies_fit, planes_fit, adus_fit)
 
 -- An offset's elements are those that it was made of.
 pub elements_offset : (c : Config) (e : Elements) → InRange c e → elements_of c (offset_of c e) ≡ e

@@ -15,6 +15,10 @@ unfolding first_no
 all_yes n true qs p e = (refl, e)
 all_yes n false qs p e = absurd (omega arith)
 
+pub first_asked : (n : ℕ) (b : Bool) (qs : List Question) → b ≡ false → first_no (ask n b ∷ qs) ≡ n
+unfolding first_no
+first_asked n b qs e = rw e
+
 -- Every number of a list is positive, so that 0 is no question's.
 unfoldable pub positive : List Question → Bool
 positive [] = true

@@ -1,11 +1,13 @@
 -- What the limits say of each number and product, and that rounding up gives the least number of blocks.
-use Prim.Native.Nat.{ℕ, ◌+◌, ◌-◌, ◌*◌, ◌/◌, ◌%◌, ◌≤◌, ◌<◌}
+use Prim.Native.Nat.{ℕ, ◌+◌, ◌-◌, ◌*◌, ◌/◌, ◌≤◌, ◌<◌}
 use mathlib.Core.Bool.{Bool, true, false, ◌&&◌, and-eq-true_iff}
 use mathlib.Core.Path.{◌≡◌, refl}
 use native.Mathlib.Nat.{div-lt_iff_lt-mul, le_of_suc-le-suc, le_trans, lt-div-mul-add, mul-le-mul_right, suc-mul}
-use native.Mathlib.Nat.{mul-le-mul, mul-le-mul_left, div-eq_of_lt-le, div-add-mod', mod-lt, add-mul}
+use native.Mathlib.Nat.{mul-le-mul, div-eq_of_lt-le, add-mul}
 use native.Mathlib.Omega.{arith}
 use lib.Dec.{leb}
+use Rattle.std.specs.Int.{div_ceil}
+use Rattle.std.proofs.lemmas.Grind.{div_ceil_times}
 use borrow.Author.Tests.{leb-true}
 use Rattle.geometry.specs.Shape.{adus_per_block, between, each_in_range, planes_per_block, store_length, stretch_start, whole_blocks, within_limits}
 use Rattle.geometry.specs.declared.shape.Config.{Config}
@@ -100,20 +102,23 @@ limits c e =
       adus = record { least = p.adus.least; most = leb-true (adus_per_block c).0 1048576 h.1 };
     }
 
--- n rounded up to units of w: as many as are full, and one more where some of n is left
-pub none_left : (n w : ℕ) → 0 < w → n % w ≡ 0 → (n + (w - 1)) / w ≡ n / w
-none_left n w p e =
-    div-eq_of_lt-le w (omega (arith, div-add-mod' n w)) (rw add-mul (omega (arith, div-add-mod' n w)))
+-- None of the divisors is 0.
+pub some_dies : (c : Config) → within_limits c ≡ true → 0 < c.dies
+some_dies c e = (limits c e).ranges.dies.least
 
-pub some_left : (n w : ℕ) → 0 < w → 0 < n % w → (n + (w - 1)) / w ≡ n / w + 1
-some_left n w p l =
-    div-eq_of_lt-le w
-    (rw add-mul (omega (arith, div-add-mod' n w)))
-    (rw (add-mul, add-mul) (omega (arith, div-add-mod' n w, mod-lt n p)))
+pub some_planes : (c : Config) → within_limits c ≡ true → 0 < c.planes
+some_planes c e = (limits c e).ranges.planes.least
 
--- and that one more is no more than n
-pub some_left_most : (n w : ℕ) → 0 < w → 0 < n % w → n / w + 1 ≤ n
-some_left_most n w p l = omega (arith, div-add-mod' n w, mul-le-mul_left (n / w) p)
+pub some_adus : (c : Config) → within_limits c ≡ true → 0 < c.adus
+some_adus c e = (limits c e).ranges.adus.least
+
+pub ruleset divisors = (some_dies, some_planes, some_adus)
+
+-- n rounded up to units of w, as the library's div_ceil does it
+pub rounded_up : (n w : ℕ) → 0 < w → (n + (w - 1)) / w ≡ div_ceil n w
+rounded_up n w p =
+    let t = div_ceil_times n w p in
+    div-eq_of_lt-le w (omega (arith, t.1)) (rw add-mul (omega (arith, t.0)))
 
 pub least_blocks : (c : Config) (n : Planes) → Limits c
     → (n.0 ≤ whole_blocks c n * (planes_per_block c).0) × ((k : ℕ) → n.0 ≤ k * (planes_per_block c).0 → whole_blocks c n ≤ k)

@@ -6,5 +6,5 @@ use Rattle.std.proofs.lemmas.List.Edits.{map_over_more}
 use Rattle.rules.specs.Domains.{freed_if_held}
 use Rattle.lent_blocks.proofs.free_held.Goals as goal
 
-pub loop-i-preserved : goal.loop-i-preserved
-loop-i-preserved c = grind (arith, common_steps, map_over_more (freed_if_held c.args.domain), get_or_default)
+pub loop-block-preserved : goal.loop-block-preserved
+loop-block-preserved c = grind (arith, common_steps, map_over_more (freed_if_held c.args.domain), get_or_default)

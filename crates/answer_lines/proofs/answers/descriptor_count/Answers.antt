@@ -1,22 +1,17 @@
-use Prim.Native.Nat.{◌*◌, ◌/◌}
-use mathlib.Core.Bool.{true}
-use mathlib.Core.Path.{◌≡◌, sym, ◌∙◌}
-use native.Mathlib.Omega.{arith}
-use lib.ListN.{drop, length}
+use Rattle.std.proofs.Common.{rules, tests, arith}
+use Rattle.std.proofs.lemmas.Iterator.{YieldsList-from_slice}
+use Rattle.std.proofs.lemmas.Iterator.Search.{position_from_yields_List}
 use Rattle.answer_lines.specs.Texts.{is_end_mark}
-use Rattle.answer_lines.proofs.Laws.{counted_all, counted_to_end_mark}
 use Rattle.answer_lines.proofs.answers.descriptor_count.Goals as goal
 
-pub returns-then-is_end_mark-clause-value : goal.returns-then-is_end_mark-clause-value
-returns-then-is_end_mark-clause-value c =
-    let z = c.args.bytes.now in
-    let l = c.loop-i in
-    let found : is_end_mark (drop (8 * l.i) z) ≡ true = sym c.is_end_mark.ensures ∙ c.if-is_end_mark.true in
-    sym (counted_to_end_mark l.i (length z / 8) z (omega arith) l.invariant found)
+pub returns-in-Some : goal.returns-in-Some
+returns-in-Some c =
+    let found = position_from_yields_List is_end_mark _ _ c.position.result c.position.ensures.ran
+    (YieldsList-from_slice _ c.iter.ensures.rest) (λ x b q k. search (rules, tests)) in
+    grind arith
 
-pub returns-clause-value : goal.returns-clause-value
-returns-clause-value c =
-    let z = c.args.bytes.now in
-    let l = c.loop-i in
-    let all : l.i ≡ length z / 8 = omega arith in
-    sym (counted_all (length z / 8) z (rw all at l.invariant))
+pub returns-in-None : goal.returns-in-None
+returns-in-None c =
+    let found = position_from_yields_List is_end_mark _ _ c.position.result c.position.ensures.ran
+    (YieldsList-from_slice _ c.iter.ensures.rest) (λ x b q k. search (rules, tests)) in
+    grind arith

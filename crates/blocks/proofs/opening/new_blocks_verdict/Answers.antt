@@ -1,11 +1,7 @@
--- The three questions, one by one, with the count of held blocks that is seen.
+-- The count of held blocks that is seen is at most 256.
 use Prim.Native.Nat.{◌≤◌}
-use mathlib.Core.Path.{refl}
 use native.Mathlib.Omega.{arith}
-use Rattle.geometry.proofs.Laws.Questions.{positive}
 use Rattle.scan.proofs.Seeing.{held_seen}
-use Rattle.tables.proofs.Answering.{chain, one_by_one}
-use Rattle.tables.specs.Verdicts.{new_blocks_questions, then_number}
 use Rattle.blocks.proofs.opening.new_blocks_verdict.Goals as goal
 
 pub overflow_add-after : goal.overflow_add-after
@@ -24,19 +20,3 @@ covered_with-covered-requires c =
       domain_value = z.requires.domain_value.0;
       reserved_bound = (c.reserved_by.ensures.1, omega (arith, least, z.requires.domain_value.1));
     }
-
-pub returns : goal.returns
-unfolding chain positive then_number
-returns c = let z = c in let a = z.args in λ t s.
-    rw (
-      c.and-2.ensures,
-      c.and.ensures,
-      c.within_quota.ensures,
-      c.ask.ensures,
-      c.serials_left.ensures,
-      c.covered_with-covered.ensures t s,
-      c.reserved_by.ensures.0,
-      s.holds z.requires.seen.1 z.requires.domain_value.0,
-      s.same_domain,
-    )
-    (one_by_one (new_blocks_questions t a.domain a.serials a.blocks) refl)

@@ -1,21 +1,16 @@
--- After i turns the first i bytes stand, and the bytes of the rest are left.
-use native.Mathlib.Omega.{arith}
-use lib.ListN.{length, length-set}
+-- After so many turns as many bytes stand, and the bytes of the rest are left.
+use Rattle.std.proofs.Common.{length, arith}
 use Rattle.buffers.proofs.Rows.{byte_more, bytes_all}
 use Rattle.buffers.proofs.fills.put_bytes.Goals as goal
 
-pub loop-i-preserved : goal.loop-i-preserved
-loop-i-preserved c =
+pub loop-byte-preserved : goal.loop-byte-preserved
+loop-byte-preserved c =
     let z = c.args in
-    let l = c.loop-i in (
-      omega arith,
-      omega arith,
-      simp length-set (omega arith),
-      byte_more (length z.part.now) z.n l.i l.rest l.part (omega arith) l.invariant.2 l.invariant.3,
-    )
+    let l = c.loop-byte in
+    byte_more (length z.part.now) z.n l.byte-index l.rest l.part (omega arith) (omega arith) l.invariant
 
 pub returns : goal.returns
 returns c =
     let z = c.args in
-    let l = c.loop-i in
-    bytes_all (length z.part.now) z.n l.i l.rest l.part l.invariant.2 (omega arith) l.invariant.3
+    let l = c.loop-byte in
+    bytes_all (length z.part.now) z.n l.byte-index l.rest l.part (omega arith) (omega arith) l.invariant

@@ -1,8 +1,7 @@
 -- The front is copied, and what stands behind it is as it was.
-use native.Mathlib.Nat.{sub-zero}
 use Rattle.rules.specs.Drive.{overwritten}
 use Rattle.buffers.proofs.fills.put_stretch.Goals as goal
 
 pub returns : goal.returns
 unfolding overwritten
-returns c = rw (c.copy.ensures, sub-zero)
+returns c = rw c.copy_from_slice.ensures.after

@@ -12,6 +12,7 @@ use Rattle.rules.specs.Domains.{are_plane_counts, changed_domain}
 use Rattle.rules.specs.Effects.{effect}
 use Rattle.scan.proofs.Outcomes.{begun_limits, begun_sound, begun_yes, then_outcome}
 use Rattle.scan.proofs.Seeing.{held_seen}
+use Rattle.tables.proofs.Answering.{asked_no, asked_yes}
 use Rattle.domains.proofs.reserving.change_capacity.Goals as goal
 
 pub are_plane_counts-requires : goal.are_plane_counts-requires
@@ -35,7 +36,7 @@ changed_domain-new-requires c =
     let in_range : let a = c.args in c.are_plane_counts.result ≡ true → are_plane_counts a.summary.config a.guarantee a.quota ≡ true =
     λ e. sym c.are_plane_counts.ensures ∙ e in
     let z = c in let a = z.args in
-    record { config_value = within; quota_value = in_range c.if-are_plane_counts.true; held_bound = held_seen z.requires.0.0 a.domain a.summary z.requires.0.1 whole known-id }
+    record { config_value = within; quota_value = in_range (asked_yes c.are_plane_counts.result Range c.in_ok-ask.ensures); held_bound = held_seen z.requires.0.0 a.domain a.summary z.requires.0.1 whole known-id }
 
 pub reserved-requires : goal.reserved-requires
 reserved-requires c =
@@ -47,9 +48,9 @@ reserved-requires c =
     let p = c.requires in begun_yes 4 p.0.0 asks 0 (p.1 p.0.0 p.0.1) in
     let z = c in record { seen = (z.requires.0, whole); domain_value = known-id }
 
-pub returns-then-are_plane_counts : goal.returns-then-are_plane_counts
+pub returns : goal.returns
 unfolding effect
-returns-then-are_plane_counts c =
+returns c =
     let asks : Command =
     let a = c.args in ChangeCapacity a.domain a.guarantee a.quota in
     let whole : c.args.summary.sound ≡ true =
@@ -61,13 +62,14 @@ returns-then-are_plane_counts c =
     let z = c in let a = z.args in λ t store words bytes s.
     rw (c.reserved.ensures t s, c.changed_domain-new.ensures, changed_seen t a.domain a.summary a.guarantee a.quota s whole known-id)
     (reserving_outcome t a.domain asks (changed_domain t a.domain a.guarantee a.quota) store words bytes
-    known-id (z.requires.1 t s) (rw (← s.same_config, in_range c.if-are_plane_counts.true)) refl refl)
+    known-id (z.requires.1 t s) (rw (← s.same_config, in_range (asked_yes c.are_plane_counts.result Range c.in_ok-ask.ensures))) refl refl)
 
-pub returns : goal.returns
+pub returns-in_err-ask : goal.returns-in_err-ask
 unfolding first_no
-returns c =
+returns-in_err-ask c =
     let asks : Command =
     let a = c.args in ChangeCapacity a.domain a.guarantee a.quota in
+    let no = asked_no c.are_plane_counts.result c.in_err-ask.field-0.0 Range c.in_err-ask.ensures in
     let z = c in λ t store words bytes s.
-    then_outcome t asks c.refusal.result Range store words bytes (z.requires.1 t s)
-    (rw (← s.same_config, sym c.are_plane_counts.ensures ∙ c.if-are_plane_counts.false)) c.refusal.ensures
+    then_outcome t asks c.from_residual.result c.in_err-ask.field-0.0 store words bytes (z.requires.1 t s)
+    (rw (← s.same_config, sym c.are_plane_counts.ensures ∙ no.0) no.1) c.from_residual.ensures.1

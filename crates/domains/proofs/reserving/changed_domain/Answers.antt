@@ -1,6 +1,5 @@
 -- Each field by its function; both counts are few blocks.
 use Rattle.domains.proofs.Reservations.{few_both}
-use Rattle.domains.specs.Reserving.{changed_from}
 use Rattle.domains.proofs.reserving.changed_domain.Goals as goal
 
 pub new_block_count-reserved-requires : goal.new_block_count-reserved-requires
@@ -10,7 +9,3 @@ new_block_count-reserved-requires c = let z = c in let a = z.args in
 pub new_block_count-quota-requires : goal.new_block_count-quota-requires
 new_block_count-quota-requires c = let z = c in let a = z.args in
     record { config_value = z.requires.config_value; n_bound = (few_both a.summary.config a.guarantee a.quota z.requires.config_value z.requires.quota_value).1 }
-
-pub returns : goal.returns
-unfolding changed_from
-returns c = rw (c.larger_count-2.ensures, c.larger_count.ensures, c.new_block_count-quota.ensures, c.new_block_count-reserved.ensures)

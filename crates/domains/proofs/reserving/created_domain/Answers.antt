@@ -4,7 +4,6 @@ use Rattle.rules.specs.Domains.{open_limit}
 use Prim.Native.Nat.{ℕ, ◌≤◌}
 use native.Mathlib.Omega.{arith}
 use Rattle.domains.proofs.Reservations.{few_both}
-use Rattle.rules.specs.Domains.{created_domain}
 use Rattle.domains.proofs.reserving.created_domain.Goals as goal
 
 -- Each field by its function; both counts are few blocks.
@@ -18,7 +17,3 @@ block_count-reserved-requires c = let a = c.args in record { config_value = c.re
 
 pub block_count-requires : goal.block_count-requires
 block_count-requires c = let z = c in let a = z.args in record { config_value = z.requires.config_value; n_bound = (few_both a.config a.guarantee a.quota z.requires.config_value z.requires.quota_value).1 }
-
-pub returns : goal.returns
-unfolding created_domain
-returns c = rw (c.open_limit.ensures, c.larger_count-quota.ensures, c.block_count.ensures, c.block_count-reserved.ensures)

@@ -20,4 +20,4 @@ pub returns : goal.returns
 unfolding reserved
 returns c = let z = c in let a = z.args in λ t s.
     let same = ap (λ held. covered_with t a.domain a.new.reserved held) (sym (s.holds z.requires.seen.1 z.requires.domain_value)) in
-    rw (same ∙ sym (c.covered_with.ensures t s) ∙ c.if-covered_with.false, c.refusal.ensures)
+    rw (same ∙ sym (c.covered_with.ensures t s) ∙ c.if-covered_with.false)

@@ -1,16 +1,19 @@
--- After i turns the first i numbers stand at the start, and the rest is as it was.
 use Prim.Native.Nat.{◌+◌, ◌-◌, ◌*◌}
-use mathlib.Core.Path.{◌≡◌, refl}
+use mathlib.Core.Path.{◌≡◌, refl, ◌∙◌}
 use native.Mathlib.Omega.{arith}
-use Rattle.geometry.specs.Bytes.{numbers}
-use Rattle.geometry.proofs.Laws.Bytes.{one_more}
+use Rattle.geometry.specs.Bytes.{little_endian, numbers}
+use lib.ListN.{get_or}
+use Rattle.geometry.proofs.Laws.Bytes.{eight_bytes, one_more}
 use Rattle.geometry.proofs.bytes.put_numbers.Goals as goal
 
 pub loop-i-init : goal.loop-i-init
 unfolding numbers
-loop-i-init c = (omega arith, refl, refl)
+loop-i-init c = refl
 
 pub loop-i-preserved : goal.loop-i-preserved
-loop-i-preserved c = let z = c in let l = c.loop-i in
-    let over : 8 * l.i + 8 - 8 * l.i ≡ 8 = omega arith in
-    (omega arith, omega arith, rw (c.put_number.ensures, l.invariant.2, over) (one_more z.args.values.now l.i z.args.out.now (omega arith)))
+loop-i-preserved c =
+    let i = c.loop-i.i in
+    let n = get_or c.args.values.now i 0 in
+    let over : 8 * i + 8 - 8 * i ≡ 8 = omega arith in
+    let bytes : c.copy_from_slice.new.self ≡ little_endian 8 n = c.copy_from_slice.ensures.after ∙ c.to_le_bytes.ensures ∙ eight_bytes n in
+    rw (bytes, c.loop-i.invariant, over) (one_more c.args.values.now i c.args.out.now (omega arith))

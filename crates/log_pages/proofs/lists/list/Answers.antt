@@ -63,8 +63,8 @@ returns c =
     le-leb (length_seen a.summary a.listed) room (rw (← count.ensures.0) c.if-bytes-count.false) in
     let many : count.result ≡ length (listed_blocks t a.domain a.listed) =
     count.ensures.0 ∙ count_seen_lem t a.domain a.listed a.summary s whole known-id in
-    let same : told_bytes a.marks.now count.result ≡ list t a.domain a.listed =
-    ap (told_bytes a.marks.now) many ∙ told_listed t a.domain a.listed a.marks.now (l.told whole known-id) in
+    let same : told_bytes a.marks.now.row count.result ≡ list t a.domain a.listed =
+    ap (told_bytes a.marks.now.row) many ∙ told_listed t a.domain a.listed a.marks.now.row (l.told whole known-id) in
     accepted_call v call words a.bytes.now _ (list t a.domain a.listed)
     (then_verdict v call (z.requires.first_passed t s)
     ∙ list_asked t a.domain a.listed a.summary store (length store) (length words) room s whole known-id

@@ -1,6 +1,6 @@
 -- A no, or the page filled in.
 use mathlib.Core.Bool.{true}
-use mathlib.Core.Path.{refl, sym, ap, ◌∙◌, ◌≡◌}
+use mathlib.Core.Path.{refl, sym, ◌∙◌, ◌≡◌}
 use native.Mathlib.Omega.{arith}
 use lib.ListN.{length}
 use Rattle.geometry.specs.Questions.{first_no}
@@ -15,42 +15,44 @@ use Rattle.rules.specs.Drive.{block_at}
 use Rattle.rules.specs.Effects.{effect}
 use Rattle.rules.specs.LogPages.{page}
 use Rattle.scan.proofs.Outcomes.{begun_limits, begun_sound}
-use Rattle.tables.proofs.Answering.{accepted_call, then_refused, then_verdict}
+use Rattle.tables.proofs.Answering.{accepted_call, refused_by, then_refused, then_verdict}
 use Rattle.tables.specs.Serving.{drive}
-use Rattle.tables.specs.Verdicts.{verdict_number}
 use Rattle.log_pages.proofs.pages.page.Goals as goal
 
 pub put_identity-requires : goal.put_identity-requires
 put_identity-requires c =
     let passed : let a = c.args in first_no (page_questions a.summary a.domain a.block (length a.bytes.now)) ≡ 0 =
-    sym c.page_verdict.ensures ∙ ap verdict_number c.in-Pass.is in
+    sym c.in_ok-page_verdict.ensures in
     let a = c.args in
     page_room a.summary a.domain a.block (length a.bytes.now) passed
 
 pub put_counts-requires : goal.put_counts-requires
 put_counts-requires c =
     let passed : let a = c.args in first_no (page_questions a.summary a.domain a.block (length a.bytes.now)) ≡ 0 =
-    sym c.page_verdict.ensures ∙ ap verdict_number c.in-Pass.is in
+    sym c.in_ok-page_verdict.ensures in
     let z = c in let a = z.args in
     let long = c.bytes-1.given in
     let room = page_room a.summary a.domain a.block (length a.bytes.now) passed in
     record { in_bounds = omega (arith, long, room); config_value = begun_limits (Page a.domain a.block) 0 a.summary z.requires.0 z.requires.1 }
 
-pub returns-in-No : goal.returns-in-No
-returns-in-No c =
+pub returns-in_err-page_verdict : goal.returns-in_err-page_verdict
+returns-in_err-page_verdict c =
     let whole : c.args.summary.sound ≡ true =
     begun_sound (Page c.args.domain c.args.block) 0 c.args.summary c.requires.0 c.requires.1 in
+    let reason = c.in_err-page_verdict.field-0.0 in
     let z = c in let a = z.args in λ t store words s b.
-    then_refused (drive t store) (calling (Page a.domain a.block) store words a.bytes.now) words a.bytes.now c.in-No.reason (z.requires.1 t s)
-    (sym (ap verdict_number c.in-No.is) ∙ c.page_verdict.ensures ∙ page_asked t a.domain a.block (length a.bytes.now) a.summary store (length store) (length words) s b whole)
+    let call = calling (Page a.domain a.block) store words a.bytes.now in
+    refused_by (drive t store) call words a.bytes.now c.from_residual.result reason c.from_residual.ensures.1
+    (then_refused (drive t store) call words a.bytes.now reason (z.requires.1 t s)
+    (c.in_err-page_verdict.ensures ∙ page_asked t a.domain a.block (length a.bytes.now) a.summary store (length store) (length words) s b whole))
 
-pub returns-in-Pass : goal.returns-in-Pass
+pub returns : goal.returns
 unfolding effect
-returns-in-Pass c =
+returns c =
     let whole : c.args.summary.sound ≡ true =
     begun_sound (Page c.args.domain c.args.block) 0 c.args.summary c.requires.0 c.requires.1 in
     let passed : let a = c.args in first_no (page_questions a.summary a.domain a.block (length a.bytes.now)) ≡ 0 =
-    sym c.page_verdict.ensures ∙ ap verdict_number c.in-Pass.is in
+    sym c.in_ok-page_verdict.ensures in
     let z = c in let a = z.args in λ t store words s b.
     let v = drive t store in
     let room = length a.bytes.now in

@@ -57,9 +57,9 @@ written_into-written-requires c =
     let cut_out : let z = c.args in Stretch z.config z.store.now z.n c.stretch_start-first.result.0 c.adus_per_block-capacity.result.0 =
     let z = c in let a = z.args in let m = z.requires.may_go_on in
     stretch a.config a.store.now a.n c.stretch_start-first.result c.adus_per_block-capacity.result m.within z.requires.not_rest_count_0.1 m.all_entries c.stretch_start-first.ensures c.adus_per_block-capacity.ensures in
-    let may-be-written : let z = c.args in MayWriteIn z.config z.domain z.n c.opened_for-opened.result.block c.smaller-put.result.0 =
+    let may-be-written : let z = c.args in MayWriteIn z.config z.domain z.n c.opened_for-opened.result.block c.min.result =
     let z = c in let a = z.args in let m = z.requires.may_go_on in
-    let put : c.smaller-put.result.0 ≡ min a.rest.count.0 (adus_per_block a.config).0 = c.smaller-put.ensures ∙ ap (min a.rest.count.0) (c.adus_per_block-capacity.ensures ∙ rw m.within) in
+    let put : c.min.result ≡ min a.rest.count.0 (adus_per_block a.config).0 = c.min.ensures ∙ ap (min a.rest.count.0) (c.adus_per_block-capacity.ensures ∙ rw m.within) in
     let written : c.opened_for-opened.result.block.written.0 ≡ 0 = ap (λ (b : Block). b.written.0) c.opened_for-opened.ensures.0 in
     record {
       limits = m.within;
@@ -69,7 +69,7 @@ written_into-written-requires c =
       fits = omega (arith, put, written);
     } in
     let z = c in let a = z.args in let m = z.requires.may_go_on in
-    let fewer : c.smaller-put.result.0 ≤ a.rest.count.0 = omega (arith, c.smaller-put.ensures) in record {
+    let fewer : c.min.result ≤ a.rest.count.0 = omega (arith, c.min.ensures) in record {
       may_write_in = may-be-written;
       count_value = fit_fewer a.rest.start _ a.rest.count.0 fewer m.fit;
       stretch_len = (
@@ -83,9 +83,9 @@ returns c =
     let cut_out : let z = c.args in Stretch z.config z.store.now z.n c.stretch_start-first.result.0 c.adus_per_block-capacity.result.0 =
     let z = c in let a = z.args in let m = z.requires.may_go_on in
     stretch a.config a.store.now a.n c.stretch_start-first.result c.adus_per_block-capacity.result m.within z.requires.not_rest_count_0.1 m.all_entries c.stretch_start-first.ensures c.adus_per_block-capacity.ensures in
-    let may-be-written : let z = c.args in MayWriteIn z.config z.domain z.n c.opened_for-opened.result.block c.smaller-put.result.0 =
+    let may-be-written : let z = c.args in MayWriteIn z.config z.domain z.n c.opened_for-opened.result.block c.min.result =
     let z = c in let a = z.args in let m = z.requires.may_go_on in
-    let put : c.smaller-put.result.0 ≡ min a.rest.count.0 (adus_per_block a.config).0 = c.smaller-put.ensures ∙ ap (min a.rest.count.0) (c.adus_per_block-capacity.ensures ∙ rw m.within) in
+    let put : c.min.result ≡ min a.rest.count.0 (adus_per_block a.config).0 = c.min.ensures ∙ ap (min a.rest.count.0) (c.adus_per_block-capacity.ensures ∙ rw m.within) in
     let written : c.opened_for-opened.result.block.written.0 ≡ 0 = ap (λ (b : Block). b.written.0) c.opened_for-opened.ensures.0 in
     record {
       limits = m.within;
@@ -95,9 +95,9 @@ returns c =
       fits = omega (arith, put, written);
     } in
     let z = c in let a = z.args in let m = z.requires.may_go_on in let r = a.rest in let cap = (adus_per_block a.config).0 in
-    let opened = c.opened_for-opened in let written = c.written_into-written in let small = c.smaller-put in let left = c.rest_after.result in
+    let opened = c.opened_for-opened in let written = c.written_into-written in let small = c.min in let left = c.rest_after.result in
     let whole : c.adus_per_block-capacity.result.0 ≡ cap = c.adus_per_block-capacity.ensures ∙ rw m.within in
-    let put : small.result.0 ≡ min r.count.0 cap = small.ensures ∙ ap (min r.count.0) whole in
+    let put : small.result ≡ min r.count.0 cap = small.ensures ∙ ap (min r.count.0) whole in
     let some = some_adus a.config m.within in
     let last : opened.result.owner.last ≡ a.owner.last + 1 = ap (λ (o : Domain). o.last) opened.ensures.1 in
     let left_is : left ≡ rest_after r cap = c.rest_after.ensures ∙ ap (rest_after r) whole in
@@ -129,6 +129,6 @@ returns c =
           (opened_drive a.config t a.domain a.n _ (Placement r.placement) a.block opened.result.block a.owner opened.result.owner fresh a.store.now e o b cut.long opened.ensures)
           (λ u eu hu. subst (λ (k : ℕ). Wrote (written_into a.domain a.n (user_addresses r.start k) (drive u (with_stretch a.config a.n fresh a.store.now))) (behind r.done a.words.now)
           (drive (with_block a.n written.result u) (with_stretch a.config a.n full a.store.now)) part) (put ∙ rw e)
-          (wrote_again a.config u a.domain a.n r.start small.result.0 opened.result.block written.result a.store.now fresh full (behind r.done a.words.now) part
+          (wrote_again a.config u a.domain a.n r.start small.result opened.result.block written.result a.store.now fresh full (behind r.done a.words.now) part
           (eu ∙ e) hu may-be-written m.all_entries fresh-long (full-kept ∙ cut.long) written.ensures)))),
     )

@@ -1,7 +1,7 @@
 -- A no, or the write.
 use mathlib.Core.Bool.{true}
 use mathlib.Core.List.{◌++◌}
-use mathlib.Core.Path.{◌≡◌, sym, ap, ◌∙◌}
+use mathlib.Core.Path.{◌≡◌, refl, sym, ◌∙◌}
 use native.Mathlib.Omega.{arith}
 use lib.ListN.{length}
 use Rattle.geometry.specs.Address.{is_domain_id}
@@ -18,7 +18,10 @@ use Rattle.placements.specs.Placing.{room_seen}
 use Rattle.scan.proofs.Outcomes.{begun_sound, begun_yes, then_outcome}
 use Rattle.scan.specs.Summary.{Sees}
 use Rattle.tables.specs.Serving.{drive}
-use Rattle.tables.specs.Verdicts.{verdict_number}
+use Rattle.std.specs.Prelude.{Err}
+use Rattle.std.proofs.lemmas.Result.{err_from_is_err_and}
+use Rattle.model.specs.declared.answer.Answer.TheVariants.{Refused}
+use Rattle.tables.specs.Changing.{leaving}
 use Rattle.placements.proofs.writing.write_by_placement.Goals as goal
 
 pub placement_verdict-requires : goal.placement_verdict-requires
@@ -34,14 +37,14 @@ placement_verdict-requires c =
 pub overflow_cast-p : goal.overflow_cast-p
 overflow_cast-p c =
     let passed : let z = c.args in (t : Table) → Sees t z.domain z.summary → first_no (placement_arguments z.summary (length z.words.now) z.placement z.count ++ placement_state t z.summary z.domain z.start z.count) ≡ 0 =
-    λ t s. sym (c.placement_verdict.ensures t s) ∙ ap verdict_number c.in-Pass.is in
+    λ t s. sym (c.in_ok-placement_verdict.ensures t s) in
     let z = c in let a = z.args in let t = z.requires.sees.0 in let s = z.requires.sees.1 in
     omega (arith, few_placements t (length a.store.now) (length a.words.now) a.domain a.placement a.start a.count a.summary s (z.requires.first_passed t s) (passed t s))
 
 pub placed-requires : goal.placed-requires
 placed-requires c =
     let passed : let z = c.args in (t : Table) → Sees t z.domain z.summary → first_no (placement_arguments z.summary (length z.words.now) z.placement z.count ++ placement_state t z.summary z.domain z.start z.count) ≡ 0 =
-    λ t s. sym (c.placement_verdict.ensures t s) ∙ ap verdict_number c.in-Pass.is in
+    λ t s. sym (c.in_ok-placement_verdict.ensures t s) in
     let z = c in let a = z.args in let t = z.requires.sees.0 in let s = z.requires.sees.1 in
     let pass = passed t s in
     let fits = place_fits t (length a.words.now) a.domain a.placement a.start a.count a.summary pass in
@@ -52,27 +55,30 @@ placed-requires c =
       count_in_bounds = fits.1;
     }
 
-pub returns-in-No : goal.returns-in-No
-returns-in-No c =
+pub returns-in_err-placement_verdict : goal.returns-in_err-placement_verdict
+returns-in_err-placement_verdict c =
     let asks : Command =
     WriteByPlacement c.args.domain c.args.placement c.args.start c.args.count in
     let whole : c.args.summary.sound ≡ true =
     begun_sound asks (length c.args.store.now) c.args.summary (c.requires.sees.0, c.requires.sees.1) c.requires.first_passed in
     let known-id : is_domain_id c.args.domain ≡ true =
     begun_yes 4 c.requires.sees.0 asks (length c.args.store.now) (c.requires.first_passed c.requires.sees.0 c.requires.sees.1) in
-    let y = c in let z = y.args in let k = asks in let o = c.refusal.result in
-    rw c.complete.ensures (
-      rw c.refusal.ensures,
+    let y = c in let z = y.args in let k = asks in
+    let reason = c.in_err-placement_verdict.field-0.0 in
+    let o = leaving (Refused reason) in
+    let p = err_from_is_err_and c.from_residual.result c.from_residual.ensures.1 in
+    rw (p.1, p.2) (
+      refl,
       complete_may z.summary.config _ _ o,
       λ t bytes s q. complete_finishes t k z.store.now z.words.now bytes o z.store.now z.words.now bytes
-          (then_outcome t k o c.in-No.reason z.store.now z.words.now bytes (y.requires.first_passed t s)
-          (sym (ap verdict_number c.in-No.is) ∙ c.placement_verdict.ensures t s
+          (then_outcome t k (Err reason) reason z.store.now z.words.now bytes (y.requires.first_passed t s)
+          (c.in_err-placement_verdict.ensures t s
           ∙ placement_asked t z.domain z.placement z.summary s q whole known-id z.store.now (length z.store.now) (length z.words.now) (length bytes) z.start z.count)
-          c.refusal.ensures),
+          refl),
     )
 
-pub returns-in-Pass : goal.returns-in-Pass
-returns-in-Pass c =
+pub returns : goal.returns
+returns c =
     let asks : Command =
     WriteByPlacement c.args.domain c.args.placement c.args.start c.args.count in
     let whole : c.args.summary.sound ≡ true =
@@ -80,7 +86,7 @@ returns-in-Pass c =
     let known-id : is_domain_id c.args.domain ≡ true =
     begun_yes 4 c.requires.sees.0 asks (length c.args.store.now) (c.requires.first_passed c.requires.sees.0 c.requires.sees.1) in
     let passed : let z = c.args in (t : Table) → Sees t z.domain z.summary → first_no (placement_arguments z.summary (length z.words.now) z.placement z.count ++ placement_state t z.summary z.domain z.start z.count) ≡ 0 =
-    λ t s. sym (c.placement_verdict.ensures t s) ∙ ap verdict_number c.in-Pass.is in
+    λ t s. sym (c.in_ok-placement_verdict.ensures t s) in
     let y = c in let z = y.args in let w = c.placed in (
       rw w.ensures.0 w.ensures.2,
       (rw w.ensures.2 (after_one (whole_write z.placement z.start z.count) (room_seen z.summary)), λ ne. rw w.ensures.1 w.ensures.3),

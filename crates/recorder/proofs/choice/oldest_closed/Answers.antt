@@ -8,7 +8,6 @@ use Rattle.recorder.proofs.choice.oldest_closed.Goals as goal
 
 pub loop-n-init : goal.loop-n-init
 loop-n-init c = record {
-  inside = omega arith;
   found = sym (found_none c.args.blocks.now c.args.domain);
   narrow = λ i l. absurd (omega (arith, l));
 }
@@ -18,8 +17,11 @@ loop-n-preserved c =
     let bs = c.args.blocks.now in
     let d = c.args.domain in
     let l = c.loop-n in
+    let step = c.older-found.ensures in
     record {
-      inside = omega arith;
-      found = c.older-found.ensures.found ∙ ap (λ (f : Oldest). older_of f l.n (get_or bs l.n clear_block) d) l.invariant.found ∙ sym (found_next bs d l.n);
-      narrow = below_more _ _ l.invariant.narrow c.older-found.ensures.narrow;
+      found =
+          step.found
+          ∙ ap (λ (f : Oldest). older_of f l.n (get_or bs l.n clear_block) d) l.invariant.found
+          ∙ sym (found_next bs d l.n);
+      narrow = below_more _ _ l.invariant.narrow step.narrow;
     }

@@ -1,9 +1,7 @@
 -- Block by block, from the last key back: `Filled` holds.
+use Rattle.recorder.specs.Newest.{written_of}
 use Rattle.recorder.proofs.Filling.{Filled}
 use Rattle.recorder.proofs.newest.fill.Given as goal
 
-abbrev pub invariant-loop-left : goal.invariant-loop-left
-invariant-loop-left l = Filled l.keys l.written l.capacity l.count l.store l.initial.words l.words l.left l.i
-
-abbrev pub decreases-loop-left : goal.decreases-loop-left
-decreases-loop-left l = l.i
+abbrev pub invariant-loop-i : goal.invariant-loop-i
+invariant-loop-i l = Filled l.keys (written_of l.blocks) l.capacity l.count l.store l.initial.words l.words l.left l.i

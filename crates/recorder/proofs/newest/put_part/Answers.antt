@@ -5,5 +5,11 @@ use Rattle.recorder.proofs.newest.put_part.Goals as goal
 
 pub returns : goal.returns
 unfolding overwritten
-returns c = let z = c in
-    rw (c.copy.ensures, part_end z.args.to z.args.count, part_end z.args.from z.args.count, length_stretch z.args.store.now z.args.from z.args.count z.requires.1)
+returns c =
+    let z = c.args in
+    rw (
+      c.copy_from_slice.ensures.after,
+      part_end z.to z.count,
+      part_end z.from z.count,
+      length_stretch z.store.now z.from z.count c.requires.1,
+    )

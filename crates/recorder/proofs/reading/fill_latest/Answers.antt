@@ -6,4 +6,4 @@ use Rattle.recorder.proofs.reading.fill_latest.Goals as goal
 
 pub returns-then-found-count : goal.returns-then-found-count
 returns-then-found-count c = let z = c in let y = z.args in
-    too_few (gathered_parts y.config y.found y.keys.now y.written.now y.store.now) y.count y.words.now (omega (arith, c.if-found-count.true, z.requires.0.adus))
+    too_few (gathered_parts y.lent.config y.found y.keys.now y.lent.blocks.now y.lent.store.now) y.count y.words.now (omega (arith, c.if-found-count.true, z.requires.0.adus))

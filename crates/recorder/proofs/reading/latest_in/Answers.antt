@@ -24,7 +24,6 @@ gather-found-requires c =
       omega (arith, few, length-take-le c.records_of-records.result u.blocks (omega (arith, few, shape.blocks))),
       rw all (may_gather u d first.new.store ready shape),
       refl,
-      refl,
     )
 
 pub overflow_sub-domain : goal.overflow_sub-domain
@@ -51,9 +50,9 @@ give_latest-requires c =
     let all : c.records_of-records.result ≡ size u = c.records_of-records.ensures ∙ few_are_all u d first.new.store ready shape in
     let few : c.records_of-records.result ≤ 256 = omega (arith, c.records_of-records.ensures) in
     let g = c.gather-found in
-    let gathers = rw all at (gathered_lent u.blocks d c.records_of-records.result _ _ g.result g.new.keys g.new.written
+    let gathers = rw all at (gathered_lent u.blocks d c.records_of-records.result _ g.result g.new.keys
     (omega (arith, few, shape.blocks)) g.ensures) in
-    gathered_fillable u d first.new.store ready shape _ _ g.result g.new.keys g.new.written gathers refl refl
+    gathered_fillable u d first.new.store ready shape _ g.result g.new.keys gathers refl
 
 pub returns-then-is_out_of_range : goal.returns-then-is_out_of_range
 returns-then-is_out_of_range c =
@@ -68,12 +67,12 @@ returns-then-is_out_of_range c =
     let all : c.records_of-records.result ≡ size u = c.records_of-records.ensures ∙ few_are_all u d first.new.store ready shape in
     let few : c.records_of-records.result ≤ 256 = omega (arith, c.records_of-records.ensures) in
     let g = c.gather-found in
-    let gathers = rw all at (gathered_lent u.blocks d c.records_of-records.result _ _ g.result g.new.keys g.new.written
+    let gathers = rw all at (gathered_lent u.blocks d c.records_of-records.result _ g.result g.new.keys
     (omega (arith, few, shape.blocks)) g.ensures) in
     let gives = rw c.domain_at-owner.ensures at c.give_latest.ensures in
     latest_served t d c.args.count c.args.store.now c.args.words.now (answering u c.give_latest.result) _ _
     (given (answering u first.result) first.new.words served (sym c.is_out_of_range.ensures ∙ c.if-is_out_of_range.true)
-    (gathered_given u d first.new.store ready shape _ _ g.result g.new.keys g.new.written gathers c.args.count first.new.words c.give_latest.result _ gives)
+    (gathered_given u d first.new.store ready shape _ g.result g.new.keys gathers c.args.count first.new.words c.give_latest.result _ gives)
     refl)
 
 pub returns : goal.returns

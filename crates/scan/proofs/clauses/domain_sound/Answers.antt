@@ -42,17 +42,12 @@ of-missing r blocks held opened e = rw (e, and-true) (by_test (clear r)
     off true = refl
     off false = refl
 
-pub returns-then-quota-domain : goal.returns-then-quota-domain
-returns-then-quota-domain c = let z = c.args in sym (of-existing z.domain z.blocks z.held z.opened c.if-domain.true ∙ rw (lt-leb _ _ c.if-quota-domain.true))
-
-pub returns-then-blocks-quota : goal.returns-then-blocks-quota
-returns-then-blocks-quota c = let z = c.args in sym (of-existing z.domain z.blocks z.held z.opened c.if-domain.true ∙ rw (le-leb _ _ c.if-quota-domain.false, lt-leb _ _ c.if-blocks-quota.true))
-
-pub returns-then-quota-held : goal.returns-then-quota-held
-returns-then-quota-held c = let z = c.args in sym (of-existing z.domain z.blocks z.held z.opened c.if-domain.true ∙ rw (le-leb _ _ c.if-quota-domain.false, le-leb _ _ c.if-blocks-quota.false, lt-leb _ _ c.if-quota-held.true))
-
 pub returns-then-domain : goal.returns-then-domain
-returns-then-domain c = let z = c.args in sym (of-existing z.domain z.blocks z.held z.opened c.if-domain.true ∙ rw (le-leb _ _ c.if-quota-domain.false, le-leb _ _ c.if-blocks-quota.false, le-leb _ _ c.if-quota-held.false) (sym c.limits_kept.ensures))
+returns-then-domain c =
+    let z = c.args in
+    rw (c.from.ensures, c.from-quota.ensures, c.limits_kept.ensures) (sym (of-existing z.domain z.blocks z.held z.opened c.if-domain.true))
 
-pub returns : goal.returns
-returns c = let z = c.args in sym (of-missing z.domain z.blocks z.held z.opened c.if-domain.false)
+pub returns-else-domain : goal.returns-else-domain
+returns-else-domain c =
+    let z = c.args in
+    rw (c.from-quota.ensures) (sym (of-missing z.domain z.blocks z.held z.opened c.if-domain.false))

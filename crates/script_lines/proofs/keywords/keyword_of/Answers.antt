@@ -1,27 +1,22 @@
--- Each call looks the word up under one name more.
-use Rattle.script_lines.proofs.Looking.{◌then◌, all_names, no_name}
+use Rattle.std.proofs.Common.{refl, ◌∙◌, rules, tests}
+use Rattle.std.proofs.lemmas.Iterator.{YieldsList-from_slice}
+use Rattle.std.proofs.lemmas.Iterator.Search.{find_from_yields_List}
+use Rattle.script_lines.proofs.Looking.{is_named, named, not_named}
 use Rattle.script_lines.proofs.keywords.keyword_of.Goals as goal
+
+pub returns-in_err-entry : goal.returns-in_err-entry
+returns-in_err-entry c =
+    let rows = c.iter.result.rest.now in
+    c.from_residual.ensures
+    ∙ not_named c.args.text.now rows (rw c.iter.ensures.rest) c.find.result
+    (find_from_yields_List (is_named c.args.text.now) _ _ c.find.result c.find.ensures.ran
+    (YieldsList-from_slice rows refl) (λ x b q k. search (rules, tests)))
+    c.in_err-entry.was
 
 pub returns : goal.returns
 returns c =
-    all_names (
-    no_name c.args.text.now
-    then c.named_keyword-found.ensures
-    then c.named_keyword-found-2.ensures
-    then c.named_keyword-found-3.ensures
-    then c.named_keyword-found-4.ensures
-    then c.named_keyword-found-5.ensures
-    then c.named_keyword-found-6.ensures
-    then c.named_keyword-found-7.ensures
-    then c.named_keyword-found-8.ensures
-    then c.named_keyword-found-9.ensures
-    then c.named_keyword-found-10.ensures
-    then c.named_keyword-found-11.ensures
-    then c.named_keyword-found-12.ensures
-    then c.named_keyword-found-13.ensures
-    then c.named_keyword-found-14.ensures
-    then c.named_keyword-found-15.ensures
-    then c.named_keyword-found-16.ensures
-    then c.named_keyword-found-17.ensures
-    then c.named_keyword.ensures
-    )
+    let rows = c.iter.result.rest.now in
+    named c.args.text.now rows (rw c.iter.ensures.rest) c.find.result
+    (find_from_yields_List (is_named c.args.text.now) _ _ c.find.result c.find.ensures.ran
+    (YieldsList-from_slice rows refl) (λ x b q k. search (rules, tests)))
+    c.in_ok-entry.entry c.in_ok-entry.was

@@ -1,25 +1,22 @@
--- The search goes on from the index.
-use mathlib.Core.Path.{sym, ◌∙◌}
-use native.Mathlib.Omega.{arith}
-use Rattle.script_lines.proofs.Scanning.{first_end, first_here, first_later}
+use Rattle.std.proofs.Common.{sym, ◌∙◌, rules, tests}
+use Rattle.std.proofs.lemmas.Iterator.{YieldsList-from_slice}
+use Rattle.std.proofs.lemmas.Iterator.Search.{position_from_yields_List}
+use Rattle.script_lines.specs.Words.{is_mark}
+use Rattle.script_lines.proofs.Scanning.{found_at, found_none, to_end}
 use Rattle.script_lines.proofs.words.first_mark.Goals as goal
 
-pub returns-then-is_mark : goal.returns-then-is_mark
-returns-then-is_mark c =
-    let m = sym c.is_mark.ensures ∙ c.if-is_mark.true in
-    record {
-      value = first_here _ _ _ (omega arith) m ∙ sym c.loop-i.invariant.2;
-      in_range = (omega arith, omega arith);
-    }
+pub returns-in-Some-clause-value : goal.returns-in-Some-clause-value
+returns-in-Some-clause-value c =
+    let a = c.args in
+    let rest = YieldsList-from_slice _ c.iter.ensures.rest in
+    let found = position_from_yields_List (is_mark a.mark) _ _ c.position.result c.position.ensures.ran rest
+    (λ x b q k. search (rules, tests)) in
+    found_at a.mark a.line.now a.at c.in-Some.passed (sym (rw to_end at found) ∙ c.in-Some.is)
 
-pub loop-i-preserved : goal.loop-i-preserved
-loop-i-preserved c =
-    let m = sym c.is_mark.ensures ∙ c.if-is_mark.false in
-    (omega arith, omega arith, c.loop-i.invariant.2 ∙ first_later _ _ _ (omega arith) m)
-
-pub returns : goal.returns
-returns c =
-    record {
-      value = first_end _ _ _ (omega arith) ∙ sym c.loop-i.invariant.2;
-      in_range = (omega arith, omega arith);
-    }
+pub returns-in-None-clause-value : goal.returns-in-None-clause-value
+returns-in-None-clause-value c =
+    let a = c.args in
+    let rest = YieldsList-from_slice _ c.iter.ensures.rest in
+    let found = position_from_yields_List (is_mark a.mark) _ _ c.position.result c.position.ensures.ran rest
+    (λ x b q k. search (rules, tests)) in
+    found_none a.mark a.line.now a.at c.requires (sym (rw to_end at found) ∙ c.in-None.is)

@@ -18,19 +18,8 @@ half-left n d less left =
     (rw add-mul (omega (arith, div-add-mod' n d, less, left)))
     (rw add-mul (omega (arith, div-add-mod' n d, less))))
 
-pub returns-then-index-le255 : goal.returns-then-index-le255
-returns-then-index-le255 c =
-    let n = c.args.erases * 200 in
-    let d = c.args.rated in
-    let rounded : c.if-rest-rated.index ≡ nearest n d =
-    elim c.if-rest-rated.branch [
-      | then-rest-rated w ↦ w.index-is ∙ less-than-half-left n d w.if-rest-rated.true
-      | else-rest-rated w ↦ w.index-is ∙ half-left n d (mod-lt n (omega arith)) w.if-rest-rated.false
-    ] in
-    (omega (arith, rounded), omega arith)
-
-pub returns-else-index-le255 : goal.returns-else-index-le255
-returns-else-index-le255 c =
+pub returns : goal.returns
+returns c =
     let n = c.args.erases * 200 in
     let d = c.args.rated in
     let rounded : c.if-rest-rated.index ≡ nearest n d =

@@ -1,8 +1,7 @@
 -- The flash addresses rise by one from that of the first unwritten ADU, and the user addresses go into the block's stretch.
 use mathlib.Core.Path.{◌≡◌, ap, ◌∙◌}
-use native.Mathlib.Nat.{sub-zero}
 use native.Mathlib.Omega.{arith}
-use Rattle.buffers.proofs.Rows.{length_stretch}
+use lib.Seq.{length-take-le}
 use Rattle.geometry.proofs.Laws.Answers.{address_yes}
 use Rattle.geometry.specs.Shape.{adus, adus_per_block}
 use Rattle.rules.proofs.Counting.{length_row}
@@ -12,13 +11,13 @@ use Rattle.transfers.proofs.Addresses.{first_addressed, words_low, words_row}
 use Rattle.transfers.specs.Transfers.{address_in}
 use Rattle.transfers.proofs.writes.written_into.Goals as goal
 
-pub word_at-requires : goal.word_at-requires
-word_at-requires c = let z = c in let a = z.args in
+pub word_at-word-requires : goal.word_at-word-requires
+word_at-word-requires c = let z = c in let a = z.args in
     address_yes a.config (address_in a.domain a.n a.block.written) (first_addressed a.config a.domain a.n a.block a.count.0 z.requires.may_write_in)
 
-pub put_row-requires : goal.put_row-requires
-put_row-requires c = let z = c in let a = z.args in λ e.
-    rw (c.word_at.ensures, sub-zero a.count.0, length_stretch a.words.now 0 a.count.0 (omega (arith, z.requires.stretch_len.1)))
+pub put_rising-requires : goal.put_rising-requires
+put_rising-requires c = let z = c in let a = z.args in
+    rw (c.word_at-word.ensures, length-take-le a.count.0 a.words.now (omega (arith, z.requires.stretch_len.1)))
     (words_low a.config a.domain a.n a.block a.count.0 z.requires.may_write_in)
 
 pub returns : goal.returns
@@ -28,5 +27,5 @@ returns c = let z = c in let a = z.args in
     record {
       becomes = rw (c.written_on.ensures, all, length_row (user_address a.start) a.count.0);
       leaves = c.put_user_addresses.ensures;
-      fills = rw (c.put_row.ensures, c.word_at.ensures, sub-zero a.count.0, length_stretch a.words.now 0 a.count.0 (omega (arith, z.requires.stretch_len.1)), words_row a.config a.domain a.n a.block.written.0 a.count.0, length_row (user_address a.start) a.count.0, length_row);
+      fills = rw (c.put_rising.ensures, c.word_at-word.ensures, length-take-le a.count.0 a.words.now (omega (arith, z.requires.stretch_len.1)), words_row a.config a.domain a.n a.block.written.0 a.count.0, length_row (user_address a.start) a.count.0, length_row);
     }

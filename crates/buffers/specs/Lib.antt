@@ -1,2 +1,0 @@
--- The entries of a row that is filled in.
-pub mod Rows

@@ -1,0 +1,145 @@
+// The parts of a line, which stand between blanks. Those behind the last `=` say what is wanted.
+ghost use Rattle.std.specs.Prelude.{ℕ, ◌≡◌, ◌+◌, ◌<◌, ◌≤◌, option_and_then, option_map, slice_get, slice_index};
+ghost use Rattle.std.specs.Int.{to_be_bytes, w64};
+ghost use Rattle.std.specs.Io.BufRead.{strip_last};
+ghost use Rattle.case_lines.specs.Parts.{behind_equals, config_of, is_equals, last_equals, letters, number, number_at, parts_of};
+
+use crate::number::{is_numeral, number_of};
+use geometry::Config;
+
+#[derive(Clone, Copy, Debug)]
+pub struct Line<'a> {
+    pub text: &'a [u8],
+    // the index behind the `=`
+    pub wanted: Option<usize>,
+}
+
+// A word of up to 8 letters, with zeros before them: the bytes of a number, the highest first.
+#[derive(Clone, Copy, Debug, PartialEq, Eq)]
+pub struct Word(pub [u8; 8]);
+
+impl Word {
+    // Its bytes behind the zeros.
+    pub fn letters(&self) -> &[u8]
+        ensures { result.now ≡ letters self.now.0 }
+    {
+        let zeros = self.0.iter().take_while(|b| **b == 0).count();
+        &self.0[zeros..]
+    }
+}
+
+// Whether a part is the sign before what is wanted.
+fn is_equals(part: &[u8]) -> bool
+    ensures { result ≡ is_equals part.now }
+{
+    !is_numeral(part) && number_of(part) == u64::from(b'=')
+}
+
+// The index of the last such part.
+fn last_equals(text: &[u8]) -> Option<usize>
+    ensures { result ≡ last_equals text.now }
+{
+    let parts = text.split(|b| *b == b' ').filter(|part| !part.is_empty());
+    parts
+        .enumerate()
+        .filter(|(_, part)| is_equals(*part))
+        .map(|(at, _)| at)
+        .last()
+}
+
+// The index behind it.
+fn behind_equals(text: &[u8]) -> Option<usize>
+    ensures { result ≡ behind_equals text.now }
+{
+    let at = last_equals(text)?;
+    Some(at + 1)
+}
+
+impl<'a> Line<'a> {
+    // No more parts are read.
+    pub const PARTS: usize = 40;
+
+    // A line, with its newline or without.
+    pub fn of(line: &'a [u8]) -> Line<'a>
+        ensures text { result.text.now ≡ strip_last 10 line.now }
+        ensures wanted { result.wanted ≡ behind_equals (strip_last 10 line.now) }
+    {
+        let text = match line {
+            [text @ .., b'\n'] => text,
+            text => text,
+        };
+        Line {
+            text,
+            wanted: behind_equals(text),
+        }
+    }
+
+    // The part at an index, if there is one.
+    pub fn part(self, i: usize) -> Option<&'a [u8]>
+        ensures { option_map (λ part. part.now) result ≡ slice_get (parts_of self.entry.text.now) i }
+    {
+        self.text
+            .split(|b| *b == b' ')
+            .filter(|part| !part.is_empty())
+            .take(Self::PARTS)
+            .nth(i)
+    }
+
+    // The number of the part at an index, if there is one.
+    pub fn number_at(self, i: usize) -> Option<u64>
+        ensures { result ≡ number_at self.entry.text.now i }
+    {
+        Some(number_of(self.part(i)?))
+    }
+
+    // The number of the part at an index; 0 past the last.
+    pub fn number(self, i: usize) -> u64
+        ensures { result ≡ number self.entry.text.now i }
+    {
+        self.number_at(i).unwrap_or(0)
+    }
+
+    // The part at an index as a word.
+    pub fn word(self, i: usize) -> Word
+        ensures { result.0 ≡ to_be_bytes w64 (number self.entry.text.now i) }
+    {
+        Word(self.number(i).to_be_bytes())
+    }
+
+    // The number that stands so many behind the next part after an index.
+    fn argument(self, i: usize, k: usize) -> u64
+        ensures { result ≡ number self.entry.text.now (i + 1 + k) }
+    {
+        self.number(i.saturating_add(k).saturating_add(1))
+    }
+
+    // The numbers behind the part at an index.
+    pub fn arguments<const N: usize>(self, i: usize) -> [u64; N]
+        ensures { (k : ℕ) → k < N → slice_index result k ≡ number self.entry.text.now (i + 1 + k) }
+    {
+        std::array::from_fn(|k| self.argument(i, k))
+    }
+
+    // The number that stands so many behind the first one after the `=`.
+    pub fn wanted(self, k: usize) -> Option<u64>
+        ensures { result ≡ option_and_then (λ at. number_at self.entry.text.now (at + k)) self.entry.wanted }
+    {
+        self.number_at(self.wanted?.checked_add(k)?)
+    }
+}
+
+// The configuration of seven numbers. `script_lines` has one for its own language, of which the cases see nothing.
+pub fn config_of(numbers: [u64; 7]) -> Config
+    ensures { result ≡ config_of numbers }
+{
+    let [pages, dies, planes, adus, blocks, rated, period] = numbers;
+    Config {
+        pages,
+        dies,
+        planes,
+        adus,
+        blocks,
+        rated,
+        period,
+    }
+}
