@@ -14,7 +14,8 @@ pub struct Line<'a> {
     pub wanted: Option<usize>,
 }
 
-// A word of up to 8 letters, with zeros before them: the bytes of a number, the highest first.
+// A word of up to 8 letters, with zeros before them: the bytes of a number, the highest first. It is read by way of the number,
+// since a numeral with the same bytes names the word too, and of more than 8 letters the last 8 count.
 #[derive(Clone, Copy, Debug, PartialEq, Eq)]
 pub struct Word(pub [u8; 8]);
 
@@ -128,7 +129,7 @@ impl<'a> Line<'a> {
     }
 }
 
-// The configuration of seven numbers. `script_lines` has one for its own language, of which the cases see nothing.
+// The configuration of seven numbers.
 pub fn config_of(numbers: [u64; 7]) -> Config
     ensures { result ≡ config_of numbers }
 {

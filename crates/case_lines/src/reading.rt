@@ -9,6 +9,7 @@ pub fn read_script(input: &mut impl Read, text: &mut [u8]) -> usize
     ensures { result ≤ length text.new }
 {
     let mut filled = 0;
+    // A `while`: how far a read goes it says itself.
     while filled < text.len() {
         let more = input.read(&mut text[filled..]).unwrap_or(0);
         if more == 0 {

@@ -30,6 +30,7 @@ fn chain_differs(blocks: &[Block], marks: &Marks, last: usize, block: Block) -> 
     requires { length blocks.now ≤ 256 }
     ensures { result ≡ chain_differs blocks.now marks.now.row block last }
 {
+    // A `while`: each block leads to one before it, and not to the next.
     let mut at = last;
     while 0 < at {
         if blocks.len() < at {
@@ -206,6 +207,7 @@ pub fn write_onwards(
 {
     let mut new = owner;
     let mut left = rest;
+    // A `while`: each turn says what is left.
     while 0 < left.count.0 {
         let next = open_next(blocks, config, domain, new, left, store, words);
         new = next.owner;

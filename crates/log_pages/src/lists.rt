@@ -25,7 +25,7 @@ fn put_descriptor(bytes: &mut [u8], at: usize, number: u64, index: u64, mark: u6
 }
 
 // A descriptor for each of so many blocks that the marks tell of, in their order, and the end mark. It goes over their
-// places: of each the marks tell three numbers, and there is no slice of them.
+// places: of each the marks tell three numbers, and `put_field` writes by place.
 fn put_list(bytes: &mut [u8], marks: &Marks, count: usize)
     requires { (count ≤ 256) × (8 * (count + 1) ≤ length bytes.old) }
     ensures { bytes.new ≡ overwritten 0 (told_bytes marks.now.row count) bytes.old }

@@ -7,8 +7,7 @@ ghost use Rattle.recorder.specs.Newest.{FewWritten, Gathers, Notes, PutsBlock, W
 use model::Block;
 use tables::is_held;
 
-// How many blocks the domain holds, and how many of their ADUs are written. The keys stand in a row beside it, which
-// `sort` and `fill` take as a slice.
+// How many blocks the domain holds, and how many of their ADUs are written. The keys stand in a row beside it.
 #[derive(Clone, Copy)]
 pub struct Gathered {
     pub keys: usize,
@@ -89,7 +88,7 @@ pub(crate) fn fill(
     ensures { words.new ≡ overwritten 0 (last_of count (parts_of capacity store.now (written_of blocks.now) keys.now)) words.old }
 {
     let mut left = count;
-    // By place, which is what the proof counts by; a pair of place and key would be no plainer.
+    // From the last key back.
     for i in (0..keys.len()).rev() {
         if left == 0 {
             break;

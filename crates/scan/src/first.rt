@@ -16,7 +16,7 @@ use model::{Command, Refusal};
 use tables::ask;
 
 // What a command wants of the domain that it names: that it exists, or for Create that it does not yet. Pulse names
-// none.
+// none, which is a case of its own in `own_in` too.
 #[derive(Clone, Copy)]
 pub(crate) enum Own {
     Existing(u64),

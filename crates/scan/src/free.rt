@@ -6,7 +6,7 @@ use model::Block;
 use tables::is_free;
 
 // A Free block that may be opened next, by its number and its erases; with 2^32 of them, more than any block has, it is
-// none. It is no Option: an enum, as was tried for the recorder's oldest block, is copied through memory for each block.
+// none. An Option was not tried: it would go through a loop over all blocks.
 #[derive(Clone, Copy)]
 pub struct Candidate {
     pub number: u64,

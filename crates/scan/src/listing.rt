@@ -54,7 +54,8 @@ fn put_all_told(marks: &mut Marks, keys: &[u64])
     }
 }
 
-// The keys of the listed blocks, at most 256: a count of more counts 256.
+// The keys of the listed blocks, at most 256: a count of more counts 256, as it did when it was the last entry of a row, and
+// so this is no `ArrayVec`, in which no such count can stand.
 #[derive(Drop)]
 pub struct Keys {
     row: [u64; 256],

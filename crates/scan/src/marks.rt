@@ -25,9 +25,9 @@ const BYTES: usize = 288;
 
 const INDEXES: usize = 544;
 
-// One row, and no field for each kind of mark: a list is told in the places of the scan's, and 1,600 bytes are cleared for a
-// command, which is quicker below 2,048. Numbers of blocks are asked to be below 256, and are no `u8`, since they are
-// indices of records before and after.
+// One row, and no field for each kind of mark: `mark` and `told_with` speak of places in it, and a list is told where the
+// scan's marks stood. Numbers of blocks are asked to be below 256, and are no `u8`, since they are indices of records
+// before and after.
 #[derive(Drop)]
 pub struct Marks {
     row: [u16; 800],

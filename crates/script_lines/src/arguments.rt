@@ -36,7 +36,8 @@ pub enum Length {
     Entries(u64),
 }
 
-// What the arguments are: each number at its place, and the others by their kind.
+// What the arguments are: each number at its place, and the others by their kind. What is not read has some value and is no
+// Option: `form` says which are read.
 #[derive(Clone, Copy)]
 pub struct Arguments {
     pub numbers: [u64; 7],

@@ -6,7 +6,7 @@ ghost use Rattle.tables.specs.Verdicts.{verdict_number};
 
 use model::{Block, Domain, Refusal};
 
-// One question: a no is its reason. `geometry` has one of its own, over its own four reasons and their numbers.
+// One question: a no is its reason.
 pub fn ask(holds: bool, reason: Refusal) -> Result<(), Refusal>
     ensures { verdict_number result ≡ cond holds 0 (number_of reason) }
 {
