@@ -1,7 +1,6 @@
 // The call of a line, and all that it leaves as a row of numbers: an answer's number, then what came
 // with it. For the C host those are the buffer's 64 bytes as eight numbers, so that one which is not
 // filled is seen to be as it was.
-use case_lines::Line;
 use geometry::{Adus, Config, Elements, FlashAddress, Planes, Refusal, verdict_number};
 
 pub type Row = [Option<u64>; 9];
@@ -79,9 +78,9 @@ fn fields(a: FlashAddress) -> Row {
     row(&[a.domain, a.block, a.offset.0])
 }
 
-// What the call of a line leaves; none if its word names no call.
-pub fn called(config: Config, line: Line<'_>) -> Option<Row> {
-    let row = match (line.word(0).letters(), line.arguments::<7>(0)) {
+// What the call that a word names leaves, with the numbers behind the word; none if it names no call.
+pub fn called(config: Config, word: &[u8], arguments: [u64; 7]) -> Option<Row> {
+    let row = match (word, arguments) {
         (b"config", _) => row(&[u64::from(geometry::within_limits(config))]),
         (b"size", _) => sizes(config),
         (b"round", [planes, ..]) => row(&[geometry::whole_blocks(config, Planes(planes))]),

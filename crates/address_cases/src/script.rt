@@ -22,6 +22,7 @@
 use crate::calls::{Row, UNFILLED, called, row};
 use case_lines::{Line, config_of, read_script};
 use geometry::{Config, no_config};
+use script_lines::Lines;
 use std::io;
 use std::io::Read;
 
@@ -34,21 +35,21 @@ fn shown(number: Option<u64>) -> u64 {
 }
 
 // The first number got that is not the one behind the `=`.
-fn first_other(line: Line<'_>, got: Row) -> Option<u64> {
-    let mut numbers = got.into_iter().map(shown).enumerate();
+fn first_other(line: &Line<'_>, got: Row) -> Option<u64> {
+    let mut numbers = got.iter().map(|number| shown(*number)).enumerate();
     let (_, number) = numbers.find(|(i, number)| *number != shown(line.wanted(*i)))?;
     Some(number)
 }
 
-fn tell(rt: &impl Print, line: Line<'_>, got: Row) -> io::Result<()> {
+fn tell(rt: &impl Print, line: &Line<'_>, got: Row) -> io::Result<()> {
     match first_other(line, got) {
         None => {
-            print!(rt; "ok     ")?;
+            rt.write_all(b"ok     ")?;
             rt.write_all(line.text)?;
-            println!(rt; "")
+            rt.write_all(b"\n")
         }
         Some(number) => {
-            print!(rt; "WRONG  ")?;
+            rt.write_all(b"WRONG  ")?;
             rt.write_all(line.text)?;
             println!(rt; " got 0x{number:016x}")
         }
@@ -56,16 +57,19 @@ fn tell(rt: &impl Print, line: Line<'_>, got: Row) -> io::Result<()> {
 }
 
 // One line, by the configuration that it leaves for those that follow.
-fn step(rt: &impl Print, config: &mut Config, line: Line<'_>) -> io::Result<()> {
-    match line.word(0).letters() {
+fn step(rt: &impl Print, config: &mut Config, line: &Line<'_>) -> io::Result<()> {
+    let word = line.word(0);
+    let arguments = line.arguments(0);
+    match word.letters() {
         b"#" => {
             rt.write_all(line.text)?;
-            return println!(rt; "");
+            return rt.write_all(b"\n");
         }
-        b"config" => *config = config_of(line.arguments(0)),
+        b"config" => *config = config_of(arguments),
         _ => {}
     }
-    tell(rt, line, called(*config, line).unwrap_or(row(&[UNKNOWN])))
+    let got = called(*config, word.letters(), arguments).unwrap_or(row(&[UNKNOWN]));
+    tell(rt, line, got)
 }
 
 // The whole of standard input, 65,535 bytes at most.
@@ -76,7 +80,7 @@ pub fn run(rt: &impl Print, input: &mut impl Read) {
         let _ = println!(rt; "WRONG  the script is too long");
     }
     let mut config = no_config();
-    for line in text[..filled].split_inclusive(|b| *b == b'\n') {
-        let _ = step(rt, &mut config, Line::of(line));
+    for line in Lines::of(&text[..filled]) {
+        let _ = step(rt, &mut config, &Line::of(line));
     }
 }

@@ -5,9 +5,10 @@ use mathlib.Core.Path.{◌≡◌, refl, sym, ap, ◌∙◌}
 use native.Mathlib.Numerals.{add-one}
 use native.Mathlib.Omega.{arith}
 use lib.ListN.{drop, get_or, length, length-drop, length-take, set, take}
-use lib.Seq.{append_snoc, drop-cons, set_at, take_all, take-suc-set}
+use lib.Seq.{append_snoc, drop-cons, length-take-le, set_at, take_all, take-suc, take-suc-set}
 use Rattle.geometry.specs.Bytes.{little_endian}
 use Rattle.rules.specs.Counting.{row_to}
+use Rattle.rules.specs.Drive.{overwritten}
 use Rattle.rules.proofs.Counting.{length_row}
 
 -- At first nothing is filled in.
@@ -22,6 +23,23 @@ unfolding row_to
 row_more f part n l =
     rw (add-one, drop-cons part n 0 l, set_at (row_to f n) (get_or part n 0) (drop (suc n) part) (f n) n (length_row f n))
     (sym (append_snoc (row_to f n) (f n) (drop (suc n) part)))
+
+-- One entry more is copied.
+pub copy_more : (from part : List ℕ) (n : ℕ) → n < length from → n < length part
+    → set (take n from ++ drop n part) n (get_or from n 0) ≡ take (n + 1) from ++ drop (n + 1) part
+copy_more from part n l k =
+    rw (
+      add-one,
+      drop-cons part n 0 k,
+      take-suc from n 0 l,
+      set_at (take n from) (get_or part n 0) (drop (suc n) part) (get_or from n 0) n (length-take-le n from (omega arith)),
+    )
+    (sym (append_snoc (take n from) (get_or from n 0) (drop (suc n) part)))
+
+-- In the end all of them are, and what stands behind them is as it was.
+pub copied_all : (from part : List ℕ) (n : ℕ) → n ≡ length from → take n from ++ drop n part ≡ overwritten 0 from part
+unfolding overwritten
+copied_all from part n e = rw (e, take_all (length from) from (omega arith)) refl
 
 -- One byte more: the first of those that are left joins those that stand.
 pub byte_more : (k n i rest : ℕ) (part : List ℕ) → i < length part → length part ≡ k

@@ -19,7 +19,10 @@ pub fn put_stretch(row: &mut [u64], part: &[u64])
     requires { length part.now ≤ length row.old }
     ensures { row.new ≡ overwritten 0 part.now row.old }
 {
-    row[..part.len()].copy_from_slice(part);
+    // A loop: with `copy_from_slice` the archive of `trial_c` would need `memmove` from outside.
+    for (i, entry) in part.iter().enumerate() {
+        row[i] = *entry;
+    }
 }
 
 // The low bytes of a number, the lowest first, as many as there is room for. No `to_le_bytes`: a field may be longer than

@@ -1,7 +1,9 @@
 // The parts of a line, which stand between blanks. Those behind the last `=` say what is wanted.
-ghost use Rattle.std.specs.Prelude.{ℕ, ◌≡◌, ◌+◌, ◌<◌, ◌≤◌, option_and_then, option_map, slice_get, slice_index};
+ghost use Rattle.std.specs.Prelude.{ℕ, ◌≡◌, ◌+◌, ◌<◌, ◌≤◌, map, take};
+ghost use Rattle.std.specs.Prelude.{option_and_then, option_map, slice_get, slice_index};
 ghost use Rattle.std.specs.Int.{to_be_bytes, w64};
 ghost use Rattle.std.specs.Io.BufRead.{strip_last};
+ghost use Rattle.case_lines.specs.Numbers.{number_of};
 ghost use Rattle.case_lines.specs.Parts.{behind_equals, config_of, is_equals, last_equals, letters, number, number_at, parts_of};
 
 use crate::number::{is_numeral, number_of};
@@ -12,6 +14,11 @@ pub struct Line<'a> {
     pub text: &'a [u8],
     // the index behind the `=`
     pub wanted: Option<usize>,
+    // the numbers of its parts, so that each is read once
+    numbers: [u64; 40],
+    count: usize,
+    ghost few: { count ≤ 40 },
+    ghost read: { take count numbers ≡ map number_of (parts_of text.now) },
 }
 
 // A word of up to 8 letters, with zeros before them: the bytes of a number, the highest first. It is read by way of the number,
@@ -56,6 +63,23 @@ fn behind_equals(text: &[u8]) -> Option<usize>
     Some(at + 1)
 }
 
+// Writes the numbers of the parts that are read to the front of a row, and returns how many they are.
+fn put_numbers(text: &[u8], numbers: &mut [u64; 40]) -> usize
+    ensures few { result ≤ 40 }
+    ensures read { take result numbers.new ≡ map number_of (parts_of text.now) }
+{
+    let mut count = 0;
+    let parts = text
+        .split(|b| *b == b' ')
+        .filter(|part| !part.is_empty())
+        .take(Line::PARTS);
+    for number in parts.map(|part| number_of(part)) {
+        numbers[count] = number;
+        count += 1;
+    }
+    count
+}
+
 impl<'a> Line<'a> {
     // No more parts are read.
     pub const PARTS: usize = 40;
@@ -69,15 +93,19 @@ impl<'a> Line<'a> {
             [text @ .., b'\n'] => text,
             text => text,
         };
+        let mut numbers = [0; 40];
+        let count = put_numbers(text, &mut numbers);
         Line {
             text,
             wanted: behind_equals(text),
+            numbers,
+            count,
         }
     }
 
     // The part at an index, if there is one.
-    pub fn part(self, i: usize) -> Option<&'a [u8]>
-        ensures { option_map (λ part. part.now) result ≡ slice_get (parts_of self.entry.text.now) i }
+    pub fn part(&self, i: usize) -> Option<&'a [u8]>
+        ensures { option_map (λ part. part.now) result ≡ slice_get (parts_of self.now.text.now) i }
     {
         self.text
             .split(|b| *b == b' ')
@@ -87,43 +115,43 @@ impl<'a> Line<'a> {
     }
 
     // The number of the part at an index, if there is one.
-    pub fn number_at(self, i: usize) -> Option<u64>
-        ensures { result ≡ number_at self.entry.text.now i }
+    pub fn number_at(&self, i: usize) -> Option<u64>
+        ensures { result ≡ number_at self.now.text.now i }
     {
-        Some(number_of(self.part(i)?))
+        self.numbers[..self.count].get(i).copied()
     }
 
     // The number of the part at an index; 0 past the last.
-    pub fn number(self, i: usize) -> u64
-        ensures { result ≡ number self.entry.text.now i }
+    pub fn number(&self, i: usize) -> u64
+        ensures { result ≡ number self.now.text.now i }
     {
         self.number_at(i).unwrap_or(0)
     }
 
     // The part at an index as a word.
-    pub fn word(self, i: usize) -> Word
-        ensures { result.0 ≡ to_be_bytes w64 (number self.entry.text.now i) }
+    pub fn word(&self, i: usize) -> Word
+        ensures { result.0 ≡ to_be_bytes w64 (number self.now.text.now i) }
     {
         Word(self.number(i).to_be_bytes())
     }
 
     // The number that stands so many behind the next part after an index.
-    fn argument(self, i: usize, k: usize) -> u64
-        ensures { result ≡ number self.entry.text.now (i + 1 + k) }
+    fn argument(&self, i: usize, k: usize) -> u64
+        ensures { result ≡ number self.now.text.now (i + 1 + k) }
     {
         self.number(i.saturating_add(k).saturating_add(1))
     }
 
     // The numbers behind the part at an index.
-    pub fn arguments<const N: usize>(self, i: usize) -> [u64; N]
-        ensures { (k : ℕ) → k < N → slice_index result k ≡ number self.entry.text.now (i + 1 + k) }
+    pub fn arguments<const N: usize>(&self, i: usize) -> [u64; N]
+        ensures { (k : ℕ) → k < N → slice_index result k ≡ number self.now.text.now (i + 1 + k) }
     {
         std::array::from_fn(|k| self.argument(i, k))
     }
 
     // The number that stands so many behind the first one after the `=`.
-    pub fn wanted(self, k: usize) -> Option<u64>
-        ensures { result ≡ option_and_then (λ at. number_at self.entry.text.now (at + k)) self.entry.wanted }
+    pub fn wanted(&self, k: usize) -> Option<u64>
+        ensures { result ≡ option_and_then (λ at. number_at self.now.text.now (at + k)) self.now.wanted }
     {
         self.number_at(self.wanted?.checked_add(k)?)
     }

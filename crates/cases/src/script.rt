@@ -29,6 +29,7 @@
 // lines before it. So a refusal has none.
 use crate::desk::Desk;
 use case_lines::{Line, read_script};
+use script_lines::Lines;
 use std::io::Read;
 
 // The whole of standard input, 131,071 bytes at most.
@@ -39,7 +40,7 @@ pub fn run(rt: &impl Print, input: &mut impl Read) {
         let _ = println!(rt; "WRONG  the script is too long");
     }
     let mut desk = Desk::new();
-    for line in text[..filled].split_inclusive(|b| *b == b'\n') {
+    for line in Lines::of(&text[..filled]) {
         let _ = desk.step(rt, Line::of(line));
     }
 }

@@ -16,7 +16,7 @@ pub const WORDS: usize = 4096;
 
 pub const BYTES: usize = 4096;
 
-#[derive(Drop)]
+#[derive(Clone, Copy)]
 pub struct Console {
     pub table: Table,
     // How much is lent of the store, the words and the bytes.

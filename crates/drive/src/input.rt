@@ -3,6 +3,7 @@
 use arrayvec::ArrayVec;
 use console::{answer, no_drive};
 use console_state::Console;
+use script_lines::Lines;
 use shown_lines::LineError;
 use std::io::Read;
 
@@ -45,7 +46,7 @@ impl Script<'_> {
 
     // A part of the input, with the lines that end in it.
     fn read(&mut self, rt: &impl Print, text: &[u8]) {
-        for part in text.split_inclusive(|b| *b == b'\n') {
+        for part in Lines::of(text) {
             match part.strip_suffix(b"\n") {
                 Some(part) => {
                     self.gather(part);

@@ -5,6 +5,7 @@ use mathlib.Core.List.{List}
 use mathlib.Core.Path.{◌≡◌, refl, sym, ap, subst, ◌∙◌}
 use lib.Dec.{eqb}
 use lib.ListN.{length, length-replicate}
+use Rattle.std.specs.Prelude.{Some}
 use Rattle.geometry.specs.Address.{fields_of}
 use Rattle.geometry.specs.Shape.{within_limits}
 use Rattle.geometry.specs.declared.shape.Config.{Config}
@@ -29,7 +30,7 @@ use Rattle.placements.proofs.Accepted.{complete_finishes, complete_may}
 use Rattle.placements.specs.Onwards.{complete_of}
 use Rattle.placements.specs.declared.rest.Partial.{Partial}
 use Rattle.scan.specs.Marks.{mark_count, no_marks}
-use Rattle.scan.specs.Summary.{Sees, SeesBlock, SeesChoice, SeesList, SeesPlacement, SubjectOf, present}
+use Rattle.scan.specs.Summary.{Sees, SeesBlock, SeesChoice, SeesList, SeesPlacement, SubjectOf, named_by, present}
 use Rattle.scan.specs.declared.scan.About.{About}
 use Rattle.scan.specs.declared.scan.About.TheVariants as about
 use Rattle.scan.specs.declared.scan.Subject.{Subject}
@@ -82,7 +83,7 @@ looked_summary t k x marks all looked =
 -- What is seen of a table, with a subject that is right for it.
 pub record SeenFor (t : Table) (s : Subject) (marks : List ℕ) (r : Summary) : Type 0 where
   pub sees : Sees t s.domain r
-  pub names : (n : ℕ) → s.about ≡ about.Block n → SeesBlock t n r
+  pub names : (n : ℕ) → named_by s.about ≡ Some n → SeesBlock t n r
   pub places : (p : ℕ) → s.about ≡ about.Placement p → SeesPlacement t s.domain p r
   pub chooses : s.about ≡ about.Chosen → SeesChoice t r
   pub lists : (which : Listed) → s.about ≡ about.Listed which → SeesList t s.domain which r marks
@@ -126,7 +127,7 @@ some_seen k marks r is = (is.0, seen_for is.0 k marks r is.1)
 pub erased_named : (t : Table) (d n : ℕ) (marks : List ℕ) (r : Summary) → SeenFor t (subject_of t.config (Erase d n)) marks r
     → eqb n any_block ≡ false → SeesBlock t n r
 unfolding subject_of
-erased_named t d n marks r s e = s.names n (ap (λ (any : Bool). cond any about.Chosen (about.Block n)) e)
+erased_named t d n marks r s e = s.names n (ap (λ (any : Bool). named_by (cond any about.Chosen (about.Block n))) e)
 
 pub erased_chosen : (t : Table) (d n : ℕ) (marks : List ℕ) (r : Summary) → SeenFor t (subject_of t.config (Erase d n)) marks r
     → eqb n any_block ≡ true → SeesChoice t r

@@ -5,6 +5,7 @@ ghost use Rattle.rules.specs.Recorder.{last_of};
 ghost use Rattle.recorder.specs.Newest.{FewWritten, Gathers, Notes, PutsBlock, Within, parts_of, written_of};
 
 use model::Block;
+use sorting::copy;
 use tables::is_held;
 
 // How many blocks the domain holds, and how many of their ADUs are written. The keys stand in a row beside it.
@@ -48,7 +49,7 @@ fn put_part(words: &mut [u64], to: usize, store: &[u64], from: usize, count: usi
     requires { (to + count ≤ length words.old) × (from + count ≤ length store.now) }
     ensures { words.new ≡ overwritten to (take count (drop from store.now)) words.old }
 {
-    words[to..to + count].copy_from_slice(&store[from..from + count]);
+    copy(&mut words[to..to + count], &store[from..from + count]);
 }
 
 // As many of the last ADUs of a key's block as there are words left to fill, into the end of those. Returns how many

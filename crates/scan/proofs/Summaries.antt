@@ -8,6 +8,7 @@ use native.Mathlib.Omega.{arith}
 use lib.Dec.{leb, ltb}
 use lib.ListN.{get_or, length, length-replicate, replicate}
 use lib.Seq.{get_or-take, length-take-le}
+use Rattle.std.proofs.lemmas.Option.{none-some}
 use Rattle.std.specs.Prelude.{Option as Maybe, Some, None}
 use Rattle.geometry.proofs.Laws.Shape.{both, by_test, is_between, limits}
 use Rattle.geometry.specs.Shape.{within_limits}
@@ -25,7 +26,7 @@ use Rattle.scan.proofs.Soundness.{Counts, covers, outside_unsound, scan_sound, s
 use Rattle.scan.specs.Clauses.{blocks_sound, last_to}
 use Rattle.scan.specs.Marks.{mark, mark_count, no_marks}
 use Rattle.scan.specs.Scan.{Walked}
-use Rattle.scan.specs.Summary.{Sees, SeesFound, Summarizes, SubjectOf, SummaryGathered, block_about, found_in, found_there, number_about, present, record_of}
+use Rattle.scan.specs.Summary.{Sees, SeesFound, Summarizes, SubjectOf, SummaryGathered, block_about, found_in, found_there, named_by, number_about, present, record_of}
 use Rattle.scan.specs.declared.scan.About.{About}
 use Rattle.scan.specs.declared.scan.About.TheVariants as about
 use Rattle.scan.specs.declared.scan.Subject.{Subject}
@@ -170,6 +171,14 @@ module _ {t : Table} {s : Subject} {ms : List ℕ} {r : Summary} (a : SubjectOf 
       ∙ chosen_found t (present t) p.free (omega (arith, q.long, q.most)) (λ i l. sym (q.records i (omega (arith, l, q.long)))) (p.chosen e)
       ∙ ap (chosen_to t) q.long
 
+-- The number of the block that the subject names.
+named_is : (x : About) (d free : ℕ) (marks : List ℕ) (n : ℕ) → named_by x ≡ Some n → number_about x d free marks ≡ Some n
+named_is (about.Block m) d free marks n e = e
+named_is about.Domain d free marks n e = e
+named_is (about.Listed which) d free marks n e = e
+named_is (about.Placement p) d free marks n e = absurd (none-some n e)
+named_is about.Chosen d free marks n e = absurd (none-some n e)
+
 -- ---- All together
 
 -- A number that stands for a block is that block's.
@@ -196,7 +205,7 @@ module _ {t : Table} {s : Subject} {ms : List ℕ} {r : Summary} (all : length t
   pub summary_as : Summarizes t s r
   summary_as = record {
     sees = λ a. sees_table a all p;
-    names = λ a n e. record { same_block = λ y l. block_there a all p y n (number_is a all p (about.Block n) e) l };
+    names = λ a n e. record { same_block = λ y l. block_there a all p y n (named_is s.about s.domain p.free.number ms n e) l };
     places = λ a n e. found_as a (open_block t s.domain n) (open_is a all p n e) (λ i. open_inside t s.domain n (size t) i);
     chooses = λ a e. found_as a (chosen_block t) (chosen_is a all p e) (chosen_inside t);
   }

@@ -104,7 +104,7 @@ pub record DomainsScanned (rs : List Domain) (blocks : ℕ) (marks : List ℕ) (
 abbrev pub present : Table → List Block
 present t = take (present_blocks t.config) t.blocks
 
--- A domain's entry among the marks, 0 for what is no domain's ID; and the open block of its placement, 256 if it has none.
+-- A domain's entry among the marks, 0 for what is no domain's ID; and the open block of its placement, if it has one.
 abbrev pub count_of : List ℕ → ℕ → ℕ → ℕ
 count_of marks from d = cond (is_domain_id d) (mark marks (from + (d - 1))) 0
 
@@ -113,13 +113,21 @@ open_at marks d p =
     let last = mark marks (32 + place_for d p) in
     cond (is_domain_id d && ltb p 16) (cond (eqb last 0) std.None (std.Some (last - 1))) std.None
 
--- The number of the block that the subject is about, with this one chosen, if it is about one.
+-- The block that a subject names; block 0 where it is about a domain alone or a list.
+abbrev pub named_by : About → std.Option ℕ
+named_by (about.Block n) = std.Some n
+named_by about.Domain = std.Some 0
+named_by (about.Listed which) = std.Some 0
+named_by (about.Placement p) = std.None
+named_by about.Chosen = std.None
+
+-- The number of the block that the subject is about, with this one chosen, if there is one.
 abbrev pub number_about : About → ℕ → ℕ → List ℕ → std.Option ℕ
 number_about (about.Placement p) d chosen marks = open_at marks d p
 number_about about.Chosen d chosen marks = std.Some chosen
 number_about (about.Block n) d chosen marks = std.Some n
-number_about about.Domain d chosen marks = std.None
-number_about (about.Listed which) d chosen marks = std.None
+number_about about.Domain d chosen marks = std.Some 0
+number_about (about.Listed which) d chosen marks = std.Some 0
 
 abbrev pub block_about : Subject → ℕ → List ℕ → std.Option ℕ
 block_about s chosen marks = number_about s.about s.domain chosen marks
@@ -159,7 +167,7 @@ pub record SummaryGathered (c : Config) (s : Subject) (bs : List Block) (rs : Li
 -- table is sound, the block that the subject is about.
 pub record Summarizes (t : Table) (s : Subject) (r : Summary) : Type 0 where
   pub sees : SubjectOf t s → Sees t s.domain r
-  pub names : SubjectOf t s → (n : ℕ) → s.about ≡ about.Block n → SeesBlock t n r
+  pub names : SubjectOf t s → (n : ℕ) → named_by s.about ≡ std.Some n → SeesBlock t n r
   pub places : SubjectOf t s → (p : ℕ) → s.about ≡ about.Placement p → SeesPlacement t s.domain p r
   pub chooses : SubjectOf t s → s.about ≡ about.Chosen → SeesChoice t r
 

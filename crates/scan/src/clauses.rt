@@ -2,7 +2,7 @@
 ghost use Rattle.std.specs.Prelude.{false, ◌&&◌, ◌≡◌, ◌<◌, eqb, leb, ltb};
 ghost use Rattle.rules.specs.Drive.{is_free};
 ghost use Rattle.geometry.specs.Shape.{between};
-ghost use Rattle.rules.specs.Soundness.{domain_sound, holder_exists, is_clear, serial_given, way_below};
+ghost use Rattle.rules.specs.Soundness.{domain_sound, holder_exists, is_clear, quota_kept, serial_given, way_below};
 ghost use Rattle.scan.specs.Clauses.{domain_index, key_of, some_place, place_for};
 
 use geometry::Adus;
@@ -39,15 +39,16 @@ pub(crate) fn is_owned(holder: Domain, block: Block) -> bool
     (1 <= block.holder)
         && (block.holder <= 16)
         && holder.exists
-        && (1 <= block.serial)
-        && (block.serial <= holder.last)
+        && ((1 <= block.serial) & (block.serial <= holder.last))
 }
 
 // Is there nothing in the record but the P/E count?
 pub(crate) fn is_clear(block: Block) -> bool
     ensures { result ≡ is_clear block }
 {
-    (block.holder == 0) & (block.written.0 == 0) & (block.left == 0) & (block.serial == 0)
+    // One comparison for three fields: a Free block is tested at every command.
+    let others = u64::from(block.holder) + u64::from(block.left) + u64::from(block.serial);
+    (block.written.0 == 0) & (others == 0)
 }
 
 // Of an open block, how full it is and how long it stays open.
@@ -62,7 +63,7 @@ pub(crate) fn open_kept(capacity: Adus, period: u64, block: Block) -> bool
 pub(crate) fn closed_kept(capacity: Adus, block: Block) -> bool
     ensures { result ≡ leb block.written.0 capacity.0 && eqb block.left 0 }
 {
-    (block.written.0 <= capacity.0) & (block.left == 0)
+    (block.written.0 <= capacity.0) && (block.left == 0)
 }
 
 // The place of an open block of a domain's placement, which no two open blocks share; none where no sound table has such
@@ -99,19 +100,23 @@ fn limits_kept(opened: u64, domain: Domain) -> bool
         && (opened <= u64::from(domain.limit))
 }
 
+// Of a domain that exists, its quota, with so many of so many blocks held.
+fn quota_kept(blocks: u64, held: u64, domain: Domain) -> bool
+    ensures { result ≡ quota_kept blocks held domain }
+{
+    let quota = u64::from(domain.quota);
+    (u64::from(domain.reserved) <= quota) && (quota <= blocks) && (held <= quota)
+}
+
 // The clauses of a domain that holds and has open so many of so many blocks.
 pub(crate) fn domain_sound(blocks: u64, held: u64, opened: u64, domain: Domain) -> bool
     ensures { result ≡ domain_sound blocks held opened domain }
 {
-    let quota = u64::from(domain.quota);
     if domain.exists {
-        (u64::from(domain.reserved) <= quota)
-            & (quota <= blocks)
-            & (held <= quota)
-            & limits_kept(opened, domain)
+        quota_kept(blocks, held, domain) && limits_kept(opened, domain)
     } else {
         let clear = (domain.reserved == 0)
-            & (quota == 0)
+            & (domain.quota == 0)
             & (domain.placements == 0)
             & (domain.limit == 0)
             & (domain.last == 0);

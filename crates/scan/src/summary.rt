@@ -73,7 +73,8 @@ fn count_of(marks: &Marks, from: usize, domain: u64) -> u64
     }
 }
 
-// The block that the command is about: its placement's open one, the chosen one, or the one that it names.
+// The block that the command is about: its placement's open one, the chosen one, or the one that it names. Where it is
+// about a domain alone or a list it names no block, and block 0 is given: no such command asks for that record.
 pub fn block_about(subject: Subject, chosen: u64, marks: &Marks) -> Option<u64>
     ensures { result ≡ block_about subject chosen marks.now.row }
 {
@@ -81,7 +82,7 @@ pub fn block_about(subject: Subject, chosen: u64, marks: &Marks) -> Option<u64>
         About::Placement(placement) => marks.open_at(subject.domain, placement),
         About::Chosen => Some(chosen),
         About::Block(number) => Some(number),
-        About::Domain | About::Listed(_) => None,
+        About::Domain | About::Listed(_) => Some(0),
     }
 }
 

@@ -1,5 +1,6 @@
 -- The lines of a text, and the words of a line.
-use Rattle.std.specs.Prelude.{ℕ, ◌+◌, ◌-◌, min, Bool, ◌||◌, not, List, [], ◌∷◌, eqb, drop, length, take}
+use Rattle.std.specs.Prelude.{◌≡◌, ℕ, ◌+◌, ◌-◌, min, Bool, ◌||◌, not, List, [], ◌∷◌, Option, Some, None, eqb, drop, length, option_map, take}
+use Rattle.std.specs.Borrow.{Bor}
 use Rattle.std.specs.List.{position_or_len}
 use Prim.Native.Char.{code}
 use Prim.Native.String.{String, [] as none, ◌∷◌ as ◌then◌}
@@ -29,6 +30,15 @@ first mark line at = at + position_or_len (is_mark mark) (drop at line)
 -- Where the line of a text that begins at an index ends; behind the text there is none.
 abbrev pub line_end : List ℕ → ℕ → ℕ
 line_end text from = min (first Newline text from) (length text)
+
+-- The first line of a text, with its newline; none of a text without a byte.
+abbrev pub first_line : List ℕ → Option (List ℕ)
+first_line [] = None
+first_line (b ∷ bs) = Some (take (line_end (b ∷ bs) 0 + 1) (b ∷ bs))
+
+-- A line is the first of a text, and what is left stands behind it; of a text without a byte there is none.
+abbrev pub CutsLine : List ℕ → Option (Bor (List ℕ)) → List ℕ → Type 0
+CutsLine text line left = (option_map (λ l. l.now) line ≡ first_line text) × (left ≡ drop (line_end text 0 + 1) text)
 
 -- The bytes from one index to another.
 abbrev pub part : List ℕ → ℕ → ℕ → List ℕ

@@ -10,4 +10,4 @@ mod words;
 pub use arguments::{Buffer, Length};
 pub use keywords::Expected;
 pub use lines::{Line, parse};
-pub use words::line_end;
+pub use words::{Lines, line_end};

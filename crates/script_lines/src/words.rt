@@ -1,6 +1,7 @@
 // The lines of a text and the words of a line: where one begins and ends.
 ghost use Rattle.std.specs.Prelude.{◌≡◌, ◌≤◌, min, length};
-ghost use Rattle.script_lines.specs.Words.{first, is_blank, is_mark, line_end};
+ghost use Rattle.std.specs.Iterator.{at_most};
+ghost use Rattle.script_lines.specs.Words.{CutsLine, first, is_blank, is_mark, line_end};
 
 // What a line is searched for.
 #[derive(Clone, Copy)]
@@ -54,4 +55,36 @@ pub fn line_end(text: &[u8], from: usize) -> usize
         return text.len();
     }
     first_mark(text, from, Mark::Newline)
+}
+
+// The lines of a text, one after the other, each with its newline. The last may lack it.
+#[derive(Drop)]
+pub struct Lines<'a> {
+    rest: &'a [u8],
+}
+
+impl<'a> Lines<'a> {
+    pub fn of(text: &'a [u8]) -> Lines<'a>
+        ensures { result.rest.now ≡ text.now }
+    {
+        Lines { rest: text }
+    }
+}
+
+impl<'a> Iterator for Lines<'a> {
+    type Item = &'a [u8];
+
+    ghost next_gives = { λ s line t. CutsLine s.rest.now line t.rest.now };
+
+    ghost remaining = { λ s. at_most (length s.rest.now) };
+
+    fn next(&mut self) -> Option<&'a [u8]> {
+        let text = self.rest;
+        if text.is_empty() {
+            return None;
+        }
+        let behind = text.len().min(line_end(text, 0) + 1);
+        self.rest = &text[behind..];
+        Some(&text[..behind])
+    }
 }

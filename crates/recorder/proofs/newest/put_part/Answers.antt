@@ -8,7 +8,7 @@ unfolding overwritten
 returns c =
     let z = c.args in
     rw (
-      c.copy_from_slice.ensures.after,
+      c.copy.ensures,
       part_end z.to z.count,
       part_end z.from z.count,
       length_stretch z.store.now z.from z.count c.requires.1,

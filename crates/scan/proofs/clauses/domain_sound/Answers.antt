@@ -42,12 +42,15 @@ of-missing r blocks held opened e = rw (e, and-true) (by_test (clear r)
     off true = refl
     off false = refl
 
-pub returns-then-domain : goal.returns-then-domain
-returns-then-domain c =
-    let z = c.args in
-    rw (c.from.ensures, c.from-quota.ensures, c.limits_kept.ensures) (sym (of-existing z.domain z.blocks z.held z.opened c.if-domain.true))
-
 pub returns-else-domain : goal.returns-else-domain
-returns-else-domain c =
+returns-else-domain c = let z = c.args in sym (of-missing z.domain z.blocks z.held z.opened c.if-domain.false)
+
+pub returns-then-quota_kept : goal.returns-then-quota_kept
+returns-then-quota_kept c =
     let z = c.args in
-    rw (c.from-quota.ensures) (sym (of-missing z.domain z.blocks z.held z.opened c.if-domain.false))
+    sym (of-existing z.domain z.blocks z.held z.opened c.if-domain.true ∙ rw (sym c.quota_kept.ensures ∙ c.if-quota_kept.true) (sym c.limits_kept.ensures))
+
+pub returns-else-quota_kept : goal.returns-else-quota_kept
+returns-else-quota_kept c =
+    let z = c.args in
+    sym (of-existing z.domain z.blocks z.held z.opened c.if-domain.true ∙ rw (sym c.quota_kept.ensures ∙ c.if-quota_kept.false) (sym c.if-quota_kept.false))

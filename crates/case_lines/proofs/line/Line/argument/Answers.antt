@@ -8,4 +8,4 @@ returns c =
     let at = c.args.i + 1 + c.args.k in
     let stop = c.saturating_add-2.result in
     let far : stop ≡ min at 18446744073709551615 = omega (arith, c.saturating_add.ensures, c.saturating_add-2.ensures) in
-    c.number.ensures ∙ number_stopped c.args.self.text.now at stop 18446744073709551615 (omega arith) far
+    c.number.ensures ∙ number_stopped c.args.self.now.text.now at stop 18446744073709551615 (omega arith) far

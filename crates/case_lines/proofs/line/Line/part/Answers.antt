@@ -10,6 +10,6 @@ returns c =
     nth_from_yields_List c.nth.result _ c.args.i c.nth.ensures.ran
     (YieldsList-from_take 40
     (YieldsList-from_filter _ (λ part. not (length part == 0))
-    (YieldsList-from_slice_split _ (λ b. b == 32) c.args.self.text.now (cc) (cc) (cc) (λ x b q k. search (rules, tests)))
+    (YieldsList-from_slice_split _ (λ b. b == 32) c.args.self.now.text.now (cc) (cc) (cc) (λ x b q k. search (rules, tests)))
     (cc) (λ x b q k. search (rules, tests)))
     (cc))
