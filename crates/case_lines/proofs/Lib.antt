@@ -1,3 +1,4 @@
 pub mod Last
 pub mod Made
 pub mod Past
+pub mod Same

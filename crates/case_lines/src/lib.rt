@@ -4,6 +4,8 @@
 mod line;
 mod number;
 mod reading;
+#[cfg(test)]
+mod tests;
 
 pub use line::{Line, Word, config_of};
 pub use reading::read_script;

@@ -1,5 +1,5 @@
 // The parts of a line, which stand between blanks. Those behind the last `=` say what is wanted.
-ghost use Rattle.std.specs.Prelude.{ℕ, ◌≡◌, ◌+◌, ◌<◌, ◌≤◌, map, take};
+ghost use Rattle.std.specs.Prelude.{ℕ, ◌≡◌, ◌+◌, ◌<◌, ◌≤◌, drop, length, map, replicate, take};
 ghost use Rattle.std.specs.Prelude.{option_and_then, option_map, slice_get, slice_index};
 ghost use Rattle.std.specs.Int.{to_be_bytes, w64};
 ghost use Rattle.std.specs.Io.BufRead.{strip_last};
@@ -19,6 +19,9 @@ pub struct Line<'a> {
     count: usize,
     ghost few: { count ≤ 40 },
     ghost read: { take count numbers ≡ map number_of (parts_of text.now) },
+    // Behind them stand zeros, so that a line is given by its text and the index alone.
+    ghost long: { length numbers ≡ 40 },
+    ghost rest: { drop count numbers ≡ drop count (replicate 40 0) },
 }
 
 // A word of up to 8 letters, with zeros before them: the bytes of a number, the highest first. It is read by way of the number,
@@ -63,10 +66,12 @@ fn behind_equals(text: &[u8]) -> Option<usize>
     Some(at + 1)
 }
 
-// Writes the numbers of the parts that are read to the front of a row, and returns how many they are.
+// Writes the numbers of the parts that are read to the front of a row, and returns how many they are. What stands behind
+// them stays.
 fn put_numbers(text: &[u8], numbers: &mut [u64; 40]) -> usize
     ensures few { result ≤ 40 }
     ensures read { take result numbers.new ≡ map number_of (parts_of text.now) }
+    ensures rest { drop result numbers.new ≡ drop result numbers.old }
 {
     let mut count = 0;
     let parts = text
@@ -99,6 +104,22 @@ impl<'a> Line<'a> {
             text,
             wanted: behind_equals(text),
             numbers,
+            count,
+        }
+    }
+
+    // A line of any text, a newline at its end or none, with any index for what is wanted. `of` does not go by way of it: that
+    // copies the line once more, and costs `address_cases` up to a tenth more instructions.
+    pub fn new(text: &'a [u8], wanted: Option<usize>) -> Line<'a>
+        ensures text { result.text ≡ text.entry }
+        ensures wanted { result.wanted ≡ wanted }
+    {
+        let mut row = [0; 40];
+        let count = put_numbers(text, &mut row);
+        Line {
+            text,
+            wanted,
+            numbers: row,
             count,
         }
     }

@@ -1,9 +1,9 @@
--- The chain gives the numbers of the parts, of which there are 40 at most.
-use Rattle.std.proofs.Common.{rules, tests, arith, ◌≤◌, ◌<◌, ◌==◌, ℕ, List, [], ◌∷◌, ◌++◌, not, length, map, length-take, ap, sym, ◌∙◌}
+-- The chain gives the numbers of the parts, of which there are 40 at most; no place behind them is written.
+use Rattle.std.proofs.Common.{rules, tests, arith, ◌≤◌, ◌<◌, ◌==◌, ℕ, List, [], ◌∷◌, ◌+◌, ◌++◌, not, drop, length, map, length-take, ap, sym, ◌∙◌}
 use Rattle.std.proofs.lemmas.Iterator.{YieldsList-from_map, YieldsList-from_take}
 use Rattle.std.proofs.lemmas.Iterator.Consumers.{YieldsList-end, YieldsList-from_filter, YieldsList-turn}
 use Rattle.std.proofs.lemmas.Iterator.Splits.{YieldsList-from_slice_split}
-use Rattle.std.proofs.lemmas.List.{length-map, length-set, length_push, map-id, take_more_set}
+use Rattle.std.proofs.lemmas.List.{drop-drop, drop-set-lt, length-map, length-set, length_push, map-id, take_more_set}
 use Rattle.case_lines.specs.Numbers.{number_of}
 use Rattle.case_lines.specs.Parts.{parts_of, pieces_of}
 use Rattle.case_lines.proofs.line.put_numbers.Goals as goal
@@ -44,6 +44,11 @@ loop-number-preserved c =
       read =
           take_more_set c.loop-number.numbers at n (omega (arith, here, c.loop-number.invariant.room))
           ∙ ap (λ l. l ++ n ∷ []) c.loop-number.invariant.read;
+      rest =
+          drop-set-lt (at + 1) c.loop-number.numbers at n (omega arith)
+          ∙ sym (drop-drop 1 at c.loop-number.numbers)
+          ∙ ap (drop 1) c.loop-number.invariant.rest
+          ∙ drop-drop 1 at c.args.numbers.now;
     }
 
 pub returns : goal.returns
@@ -60,4 +65,5 @@ returns c =
     record {
       few = omega (arith, e.1, few c.args.text.now, c.loop-number.invariant.so_many);
       read = c.loop-number.invariant.read ∙ sym (map-id c.loop-number.yielded) ∙ e.0;
+      rest = c.loop-number.invariant.rest;
     }

@@ -1,5 +1,5 @@
--- The numbers so far stand at the front of the row.
-use Rattle.std.proofs.Common.{◌≡◌, length, take}
+-- The numbers so far stand at the front of the row, and what stands behind them is as it was.
+use Rattle.std.proofs.Common.{◌≡◌, drop, length, take}
 use Rattle.case_lines.proofs.line.put_numbers.Given as goal
 
 abbrev pub invariant-loop-number : goal.invariant-loop-number
@@ -8,4 +8,5 @@ invariant-loop-number l =
       room : length l.numbers ≡ 40;
       so_many : l.count ≡ length l.yielded;
       read : take l.count l.numbers ≡ l.yielded;
+      rest : drop l.count l.numbers ≡ drop l.count l.initial.numbers;
     }
