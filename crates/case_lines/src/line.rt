@@ -12,7 +12,7 @@ use geometry::Config;
 #[derive(Clone, Copy, Debug)]
 pub struct Line<'a> {
     pub text: &'a [u8],
-    // the index behind the `=`
+    // the index of the first part that says what is wanted: behind the last `=`, unless it was given
     pub wanted: Option<usize>,
     // the numbers of its parts, so that each is read once
     numbers: [u64; 40],
@@ -108,8 +108,8 @@ impl<'a> Line<'a> {
         }
     }
 
-    // A line of any text, a newline at its end or none, with any index for what is wanted. `of` does not go by way of it: that
-    // copies the line once more, and costs `address_cases` up to a tenth more instructions.
+    // A line of a text as it stands, a newline at its end included, with any index for what is wanted. `of` does not go by
+    // way of it: that copies the line once more, and costs `address_cases` up to a tenth more instructions.
     pub fn new(text: &'a [u8], wanted: Option<usize>) -> Line<'a>
         ensures text { result.text ≡ text.entry }
         ensures wanted { result.wanted ≡ wanted }
@@ -170,7 +170,7 @@ impl<'a> Line<'a> {
         std::array::from_fn(|k| self.argument(i, k))
     }
 
-    // The number that stands so many behind the first one after the `=`.
+    // The number that stands so many behind the first part of what is wanted.
     pub fn wanted(&self, k: usize) -> Option<u64>
         ensures { result ≡ option_and_then (λ at. number_at self.now.text.now (at + k)) self.now.wanted }
     {
